@@ -9,7 +9,7 @@ use Rattle.uac_descriptor.specs.declared.standard.Endpoint.{Endpoint}
 use Rattle.uac_entities.specs.declared.stream.StreamInterface.{StreamInterface}
 use Rattle.uac_pcm.proofs.PacketsLemmas.{frame_bytes-pos}
 use Rattle.uac_topology.specs.Function.{FunctionFields}
-use Rattle.uac_topology.specs.FunctionKept.{AreInRange, IsInRange}
+use Rattle.uac_topology.specs.FunctionKept.{AreInRange, IsSettingInRange}
 use Rattle.uac_topology.specs.Topology.{IsSoundFunction}
 use Rattle.uac_topology.proofs.Ranges.{in_range}
 use Rattle.uac_alt.specs.AltStreams.{packet_room, stream_of, StreamFields}
@@ -26,8 +26,8 @@ small_room e high =
 pub first_room : (function : FunctionFields) (rate interface number : ℕ) (s : StreamFields) → AreInRange function.streams
     → (parts : Parts function rate interface number s) → packet_room parts.first ≤ 3072
 first_room function rate interface number s ranges parts =
-    let settings = all_found (λ (c : StreamInterface). All IsInRange c.settings) (λ c. c.number == interface) function.streams parts.streaming_interface ranges parts.carried in
-    let range : IsInRange parts.setting = all_found IsInRange (λ t. t.number == number) parts.streaming_interface.settings parts.setting settings parts.set in
+    let settings = all_found (λ (c : StreamInterface). All IsSettingInRange c.settings) (λ c. c.number == interface) function.streams parts.streaming_interface ranges parts.carried in
+    let range : IsSettingInRange parts.setting = all_found IsSettingInRange (λ t. t.number == number) parts.streaming_interface.settings parts.setting settings parts.set in
     small_room parts.first (range.first parts.first parts.has_first)
 
 -- a packet has at most 3072 bytes

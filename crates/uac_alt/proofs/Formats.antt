@@ -13,7 +13,7 @@ use Rattle.uac_entities.specs.declared.stream.StreamInterface.{StreamInterface}
 use Rattle.uac_pcm.specs.Frames.{IsFormat}
 use Rattle.uac_topology_rules.specs.Links.{is_clock, is_terminal}
 use Rattle.uac_topology.specs.Function.{FunctionFields}
-use Rattle.uac_topology.specs.FunctionKept.{IsInRange, IsLink}
+use Rattle.uac_topology.specs.FunctionKept.{IsSettingInRange, IsLink}
 use Rattle.uac_topology.specs.Topology.{IsSoundFunction}
 use Rattle.uac_topology.proofs.Channels.{have_channels}
 use Rattle.uac_topology.proofs.SettingLinks.{are_links}
@@ -46,8 +46,8 @@ pub has_format : (function : FunctionFields) (interface number : ℕ) (s : Strea
     → find (λ c. c.number == interface) function.streams ≡ Some s → find (λ t. t.number == number) s.settings ≡ Some setting
     → HasFormat function s setting
 has_format function interface number s setting sound carried set g f has_general has_type_one linked =
-    let ranges : All IsInRange s.settings = all_found (λ (c : StreamInterface). All IsInRange c.settings) (λ c. c.number == interface) function.streams s (in_range function sound) carried in
-    let range = (all_found IsInRange (λ t. t.number == number) s.settings setting ranges set).format f has_type_one in
+    let ranges : All IsSettingInRange s.settings = all_found (λ (c : StreamInterface). All IsSettingInRange c.settings) (λ c. c.number == interface) function.streams s (in_range function sound) carried in
+    let range = (all_found IsSettingInRange (λ t. t.number == number) s.settings setting ranges set).format f has_type_one in
     let links =
     all_found (λ (c : StreamInterface). All (λ (t : Setting). (g : General) → t.general ≡ Some g → IsLink function.entities c.terminal g.link) c.settings)
     (λ c. c.number == interface) function.streams s (are_links function sound) carried in

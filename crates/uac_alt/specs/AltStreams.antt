@@ -61,19 +61,19 @@ linked_channels function s = channels_of function.entities s.terminal
 
 -- a first endpoint that is asynchronous, has a packet every 1, 2, 4 or 8 microframes, and carries data, or from the device also data
 -- that is feedback
-abbrev pub carries_data : Bool → Endpoint → Bool
-carries_data out e =
+abbrev pub can_carry_data : Bool → Endpoint → Bool
+can_carry_data out e =
     synchronization_type e.attributes == 1
     && (nat_le 1 e.interval && (nat_le e.interval 4 && (usage_type e.attributes == 0 || (not out && usage_type e.attributes == 2))))
 
 -- a second endpoint for feedback: a report of four bytes, as often as the first endpoint has a packet or less often, at most every 8
 -- microframes
-abbrev pub carries_feedback : Endpoint → Endpoint → Bool
-carries_feedback first e = nat_le first.interval e.interval && (nat_le e.interval 4 && nat_le 4 (packet_size e.max_packet))
+abbrev pub can_carry_feedback : Endpoint → Endpoint → Bool
+can_carry_feedback first e = nat_le first.interval e.interval && (nat_le e.interval 4 && nat_le 4 (packet_size e.max_packet))
 
 -- a stream to the device has feedback, and one from it has none
 abbrev pub has_its_feedback : Bool → Endpoint → Option Endpoint → Bool
-has_its_feedback true first (Some e) = carries_feedback first e
+has_its_feedback true first (Some e) = can_carry_feedback first e
 has_its_feedback true first None = false
 has_its_feedback false first second = not (is_some second)
 
@@ -85,7 +85,7 @@ fits nominal g f first = nat_le (period_of first * nominal.hi * (g.channels * f.
 unfoldable pub can_run : FunctionFields → StreamInterface → Setting → Nominal → General → TypeOne → Endpoint → Bool
 can_run function s setting nominal g f first =
     is_pcm g && (g.channels == linked_channels function s
-    && (carries_data s.out first && (has_its_feedback s.out first setting.second && fits nominal g f first)))
+    && (can_carry_data s.out first && (has_its_feedback s.out first setting.second && fits nominal g f first)))
 
 -- the microframes between reports by the second endpoint; 0 where there are none
 abbrev pub report_period : Bool → Option Endpoint → ℕ

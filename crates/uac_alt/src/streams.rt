@@ -92,12 +92,12 @@ fn can_run(
 ) -> bool
     ensures value { result ≡ spec.can_run function.now streaming.now setting.now nominal.now general.now type_one.now first.now }
     ensures channels { OnTrue result (general.now.channels ≡ spec.linked_channels function.now streaming.now) }
-    ensures data { OnTrue result (spec.carries_data streaming.now.out first.now ≡ true) }
+    ensures data { OnTrue result (spec.can_carry_data streaming.now.out first.now ≡ true) }
     ensures feedback { OnTrue result (spec.has_its_feedback streaming.now.out first.now setting.now.second ≡ true) }
 {
     is_pcm(general)
         && (general.channels == function.channels_of(streaming.terminal)
-            && (carries_data(streaming.out, first)
+            && (can_carry_data(streaming.out, first)
                 && (has_its_feedback(streaming.out, first, &setting.second)
                     && fits(nominal, general, type_one, first))))
 }
@@ -112,8 +112,8 @@ fn is_pcm(general: &General) -> bool
 
 /// Whether the first endpoint carries the stream: it is asynchronous, has a packet every 1, 2, 4 or 8 microframes, and its
 /// usage is data, or from the device also data that is feedback (USB 2.0, 9.6.6).
-fn carries_data(out: bool, endpoint: &Endpoint) -> bool
-    ensures { result ≡ spec.carries_data out endpoint.now }
+fn can_carry_data(out: bool, endpoint: &Endpoint) -> bool
+    ensures { result ≡ spec.can_carry_data out endpoint.now }
 {
     let bits = EndpointBits::of(endpoint.attributes);
     bits.is_asynchronous()
@@ -124,8 +124,8 @@ fn carries_data(out: bool, endpoint: &Endpoint) -> bool
 
 /// Whether a second endpoint carries feedback: a report of four bytes, as often as the first endpoint has a packet or less
 /// often, at most every 8 microframes (USB 2.0, 5.12.4.2 and 9.6.6).
-fn carries_feedback(first: &Endpoint, endpoint: &Endpoint) -> bool
-    ensures { result ≡ spec.carries_feedback first.now endpoint.now }
+fn can_carry_feedback(first: &Endpoint, endpoint: &Endpoint) -> bool
+    ensures { result ≡ spec.can_carry_feedback first.now endpoint.now }
 {
     first.interval <= endpoint.interval && (endpoint.interval <= 4 && 4 <= endpoint.packet_size())
 }
@@ -135,7 +135,7 @@ fn has_its_feedback(out: bool, first: &Endpoint, second: &Option<Endpoint>) -> b
     ensures { result ≡ spec.has_its_feedback out first.now second.now }
 {
     match second {
-        Some(endpoint) => out && carries_feedback(first, endpoint),
+        Some(endpoint) => out && can_carry_feedback(first, endpoint),
         None => !out,
     }
 }

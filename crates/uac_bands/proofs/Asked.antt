@@ -17,9 +17,9 @@ use Rattle.uac_graph.specs.Meaning.{entity}
 use Rattle.uac_alt.specs.AltStreams.{StreamFields, has_its_feedback, period_of, report_period, stream_of, stream_with}
 use Rattle.uac_alt.proofs.Parts as alt
 use Rattle.uac_request.specs.Requests.{rate_at}
-use Rattle.uac_lanes.specs.declared.lane.Port.{Port}
+use Rattle.uac_device_streams.specs.declared.device_stream.Port.{Port}
 use Rattle.uac_device.specs.DeviceWorld.{stream_in_setting}
-use Rattle.uac_lanes.proofs.LanesLemmas.{port_named}
+use Rattle.uac_device_streams.proofs.DeviceStreamsLemmas.{port_named}
 use Rattle.uac_device.proofs.SettingStreams.{interval}
 
 -- ---- intervals

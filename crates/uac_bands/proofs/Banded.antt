@@ -4,15 +4,15 @@ use Rattle.std.proofs.lemmas.Bool.{cases_lt}
 use Rattle.std.proofs.lemmas.List.{length-replicate}
 use Rattle.std.proofs.lemmas.Nat.{mul-le}
 use Rattle.uac_clock.specs.declared.values.Nominal.{Nominal}
-use Rattle.uac_clock.specs.Nominal.{HasRoom}
+use Rattle.uac_clock.specs.Nominal.{StaysBetweenWholes}
 use Rattle.uac_clock.proofs.NominalLemmas.{has_room}
-use Rattle.uac_rate.specs.Levels.{FallsDue, Fills, Interval, IsSafeLevel, IsInterval, IsJustPrimed, IsPriming, Point, Within, came_of}
+use Rattle.uac_rate.specs.Levels.{FallsDue, Fills, Interval, IsSafeLevel, IsInterval, IsJustPrimed, IsPriming, Point, Within, frames_came}
 use Rattle.uac_rate.specs.Steadiness.{latest_run}
 use Rattle.uac_rate.proofs.LevelsLemmas.{falls_due, filled, interval_robust, interval_size, primed_robust, rates_band, robust_near, whole_packets}
 use Rattle.uac_alt.specs.AltStreams.{StreamFields}
 use Rattle.uac_flow.specs.FlowStreams.{OutStream, after_packet, after_ticks, arrival_of, frames_of, is_dry, is_due, out_level, priming_level, target_after, takes_all}
 use Rattle.uac_flow.specs.declared.arrival.Arrival.TheVariants as arrival
-use Rattle.uac_host.specs.Calls.{next_size, pace_after_packet}
+use Rattle.uac_host.specs.HostCalls.{next_size, pace_after_packet}
 use Rattle.uac_bands.specs.Life.{Life, life_after, ticks_taken, with_end, with_feedback, with_step}
 use Rattle.uac_bands.specs.Bands.{EndsNear, HasTicked, HoldsBetween, HoldsEnough, InBand, IsAt, IsFollowing, IsFilling, IsSteadyMicroframe, NeverDry, NeverOver, StartsInBand, StaysInBand, microframes_since_due, stream_at_tick, ticks_then}
 use Rattle.uac_bands.proofs.Numbers.{IsPlacedAt, clock_goes, no_report, packet_frames, placed_at, slight_goes}
@@ -83,7 +83,7 @@ module _ (l : Life) (packet : Option (List ℕ)) (step : ℕ) (band : InBand l) 
   abbrev start : ℕ
   start = l.out.microframes - microframes_since_due l.out
 
-  room : HasRoom values
+  room : StaysBetweenWholes values
   room = has_room values band.nominal
 
   at : IsPlacedAt s l.out.microframes
@@ -278,20 +278,20 @@ module _ (l : Life) (packet : Option (List ℕ)) (step : ℕ) (band : InBand l) 
     ends : (l.out.microframes + 1) % s ≡ 0
     ends = is_zero ((l.out.microframes + 1) % s) due
 
-    came : length (came_for packet all l.out) ≡ came_of (is_lost packet) (next_size l.pace) all
+    came : length (came_for packet all l.out) ≡ frames_came (is_lost packet) (next_size l.pace) all
     came = by packet refl
       where
-        by : (o : Option (List ℕ)) → packet ≡ o → length (came_for o all l.out) ≡ came_of (is_lost o) (next_size l.pace) all
+        by : (o : Option (List ℕ)) → packet ≡ o → length (came_for o all l.out) ≡ frames_came (is_lost o) (next_size l.pace) all
         by None is = length-replicate all (replicate l.out.stream.channels (pos 0))
         by (Some bytes) is = given.frames bytes is due
 
-    all_came : length (l.out.arrived ++ came_for packet all l.out) ≡ length l.out.arrived + came_of (is_lost packet) (next_size l.pace) all
+    all_came : length (l.out.arrived ++ came_for packet all l.out) ≡ length l.out.arrived + frames_came (is_lost packet) (next_size l.pace) all
     all_came = length-append l.out.arrived (came_for packet all l.out) ∙ ap (λ (k : ℕ). length l.out.arrived + k) came
 
-    came_more : frames_in packet l.out ≤ came_of (is_lost packet) (next_size l.pace) all
+    came_more : frames_in packet l.out ≤ frames_came (is_lost packet) (next_size l.pace) all
     came_more = by packet refl
       where
-        by : (o : Option (List ℕ)) → packet ≡ o → frames_in o l.out ≤ came_of (is_lost o) (next_size l.pace) all
+        by : (o : Option (List ℕ)) → packet ≡ o → frames_in o l.out ≤ frames_came (is_lost o) (next_size l.pace) all
         by None is = omega arith
         by (Some bytes) is = let same = given.frames bytes is due in omega arith
 
@@ -346,7 +346,7 @@ module _ (l : Life) (packet : Option (List ℕ)) (step : ℕ) (band : InBand l) 
       paced : p.host + s * p.value ≡ sum l.pace.used % 65536 + s * l.pace.value
       paced = ap (λ (k : ℕ). k + s * p.value) b.host ∙ ap (λ (k : ℕ). sum l.pace.used % 65536 + s * k) b.value
 
-      level_ends : end_point.level + all ≡ p.level + came_of (is_lost packet) (next_size l.pace) all
+      level_ends : end_point.level + all ≡ p.level + frames_came (is_lost packet) (next_size l.pace) all
       level_ends =
           let size = all_came in
           let some = taken_due (Some target) (p, b) in
@@ -408,7 +408,7 @@ module _ (l : Life) (packet : Option (List ℕ)) (step : ℕ) (band : InBand l) 
       }
         where
           by : (lost : Bool) → length (l.out.arrived ++ came_for packet all l.out)
-              ≡ length l.out.arrived + came_of lost (next_size l.pace) all
+              ≡ length l.out.arrived + frames_came lost (next_size l.pace) all
               → (level_now ≡ out_level l.out + (sum l.pace.used % 65536 + s * values.f) / 65536)
               ⊎ (level_now ≡ out_level l.out + (filling.clock + (filling.ticked.steps + step)) / 65536)
           by true size =

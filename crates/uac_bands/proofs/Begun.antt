@@ -14,16 +14,16 @@ use Rattle.uac_topology.proofs.Small.{small}
 use Rattle.uac_store.specs.Rates.{rate_of}
 use Rattle.uac_flow.specs.FlowStreams.{OutStream}
 use Rattle.uac_host.specs.HostWorld.{HostWorld, Pace, Track, fresh_host}
-use Rattle.uac_host.specs.Calls.{channels_at, in_frames, with_samples}
-use Rattle.uac_host.specs.Calls as calls
+use Rattle.uac_host.specs.HostCalls.{channels_at, in_frames, with_samples}
+use Rattle.uac_host.specs.HostCalls as calls
 use Rattle.uac_device.specs.DeviceWorld.{Domain, after_deviation, fresh}
-use Rattle.uac_streaming.specs.StreamingWorld.{place_of}
-use Rattle.uac_running.specs.RunningWorld.{RunningWorld, at_start, with_detail, with_deviation, with_samples_on, with_tone, with_track}
+use Rattle.uac_streaming.specs.StreamingWorld.{stream_index}
+use Rattle.uac_running.specs.RunningWorld.{RunningWorld, at_start, with_detail, with_deviation, with_samples_on, with_jack_tone, with_track}
 use Rattle.uac_running.specs.RunningTransfers.{with_break}
 use Rattle.uac_bands.specs.Life.{Life, domain_id_on, domain_on, life_of}
 use Rattle.uac_bands.specs.Beginnings.{CallsKeepBands, RunsStartInBand}
 use Rattle.uac_bands.specs.BandRun.{RunInBand, StreamInBand}
-use Rattle.uac_bands.proofs.Ordered.{deviations_keep_order, starts_are_ordered}
+use Rattle.uac_bands.proofs.ProjectionLemmas.{deviations_keep_order, starts_are_ordered}
 
 pub runs_start_in_band : RunsStartInBand
 unfolding at_start fresh fresh_host
@@ -123,8 +123,8 @@ samples_whole interface samples w k whole = by (k == interface) refl
 
 pub track_whole : (interface : ℕ) (tone : Tone) (w : HostWorld) (k : ℕ)
     → All (λ frame. length frame ≡ channels_at w.function k) (w.tracks k).waiting
-    → All (λ frame. length frame ≡ channels_at w.function k) ((calls.with_tone interface tone w).tracks k).waiting
-unfolding calls.with_tone
+    → All (λ frame. length frame ≡ channels_at w.function k) ((calls.with_track_tone interface tone w).tracks k).waiting
+unfolding calls.with_track_tone
 track_whole interface tone w k whole = by (k == interface) refl
   where
     by : (b : Bool) → (k == interface) ≡ b
@@ -140,8 +140,8 @@ unfolding with_samples_on with_samples
 samples_keep interface samples r = rehosted r (with_samples interface samples r.host).tracks (samples_whole interface samples r.host)
 
 track_keeps : (interface : ℕ) (tone : Tone) (r : RunningWorld) → RunInBand r → RunInBand (with_track interface tone r)
-unfolding with_track calls.with_tone
-track_keeps interface tone r = rehosted r (calls.with_tone interface tone r.host).tracks (track_whole interface tone r.host)
+unfolding with_track calls.with_track_tone
+track_keeps interface tone r = rehosted r (calls.with_track_tone interface tone r.host).tracks (track_whole interface tone r.host)
 
 -- ---- deviations
 
@@ -197,7 +197,7 @@ module _ (clock : ℕ) (ppm : ℤ) where
 
     abbrev with_domain : OutStream → Pace → Option Domain → Option Life
     with_domain out pace o =
-        option_and_then (λ d. option_map (λ place. record { out = out; pace = pace; steps = d.steps; reports = r.history.feedback place }) (place_of r.device.function k)) o
+        option_and_then (λ d. option_map (λ place. record { out = out; pace = pace; steps = d.steps; reports = r.history.feedback place }) (stream_index r.device.function k)) o
 
     pub life_off : life_of after k ≡ life_of r k
     unfolding life_of with_deviation after_deviation
@@ -206,7 +206,7 @@ module _ (clock : ℕ) (ppm : ℤ) where
         off_nothing : (out : OutStream) (pace : Pace) (o : Option Domain) → with_domain out pace (option_map off o) ≡ with_domain out pace o
         off_nothing out pace None = refl
         off_nothing out pace (Some d) =
-            ap (λ (steps : List ℕ). option_map (λ place. record { out = out; pace = pace; steps = steps; reports = r.history.feedback place }) (place_of r.device.function k)) (off_steps d)
+            ap (λ (steps : List ℕ). option_map (λ place. record { out = out; pace = pace; steps = steps; reports = r.history.feedback place }) (stream_index r.device.function k)) (off_steps d)
 
         by : (o : Option OutStream) (q : Option Pace)
             → option_and_then (λ out. option_and_then (λ pace. with_domain out pace (domain_on (with_deviation clock ppm r) k)) q) o
@@ -237,9 +237,9 @@ module _ (clock : ℕ) (ppm : ℤ) where
   }
 
 pub calls_keep_bands : CallsKeepBands
-unfolding with_tone with_detail with_break
+unfolding with_jack_tone with_detail with_break
 calls_keep_bands r band = record {
-  tone = λ terminal tone. carry r (with_tone terminal tone r) band;
+  tone = λ terminal tone. carry r (with_jack_tone terminal tone r) band;
   detail = λ level. carry r (with_detail level r) band;
   breaks = λ after. carry r (with_break after r) band;
   samples = λ interface samples. samples_keep interface samples r band;

@@ -17,11 +17,11 @@ use Rattle.uac_alt.specs.AltStreams.{StreamFields}
 use Rattle.uac_rate.specs.Steadiness.{one_more}
 use Rattle.uac_flow.specs.FlowStreams.{OutStream, after_packet, after_taking, after_ticks, feedback_of, frames_of, is_dry, is_due, settled_out, settled_when_due}
 use Rattle.uac_host.specs.HostWorld.{Pace, Track}
-use Rattle.uac_host.specs.Calls.{IsStreamOf, after_frames, channels_at, next_frames, next_size, packet_of, pace_after_report, pace_after_packet}
+use Rattle.uac_host.specs.HostCalls.{IsStreamOf, track_after_frames, channels_at, next_frames, next_size, packet_of, pace_after_report, pace_after_packet}
 use Rattle.uac_host.proofs.HostKeptLemmas.{even_after}
 use Rattle.uac_host.proofs.SettingStreams.{channels_of}
 use Rattle.uac_device.specs.DeviceWorld.{step_in}
-use Rattle.uac_streaming.specs.StreamingWorld.{loses_out, loses_report, packet_to, place_of}
+use Rattle.uac_streaming.specs.StreamingWorld.{loses_out, loses_report, packet_to, stream_index}
 use Rattle.uac_running.specs.RunningWorld.{streaming_of}
 use Rattle.uac_running.specs.Events.{microframe}
 use Rattle.uac_bands.specs.Life.{Life, domain_on, life_after, life_of, ticks_taken, with_end, with_packet, with_step}
@@ -116,7 +116,7 @@ microframes_keep_fed marks r interface l d ordered runs fed =
   where
     by : (b : Bool)
         → All (λ frame. length frame ≡ channels_at r.host.function interface)
-        (if b then after_frames (next_size l.pace) (r.host.tracks interface) else r.host.tracks interface).waiting
+        (if b then track_after_frames (next_size l.pace) (r.host.tracks interface) else r.host.tracks interface).waiting
     by true = even_after (channels_at r.host.function interface) (next_size l.pace) (r.host.tracks interface) fed.whole
     by false = fed.whole
 
@@ -162,7 +162,7 @@ packets_have_their_frames r interface l lives fed =
     option_and_then_some _ (r.device.outs interface) l lives (λ out outs after_out.
     option_and_then_some _ (r.host.paces interface) l after_out (λ pace paces after_pace.
     option_and_then_some _ (domain_on r interface) l after_pace (λ d domain after_domain.
-    (let placed = mapped _ (place_of r.device.function interface) l after_domain in
+    (let placed = mapped _ (stream_index r.device.function interface) l after_domain in
     let t : Track = r.host.tracks interface in
     let own : r.host.paces interface ≡ Some l.pace = paces ∙ ap (λ (m : Life). Some m.pace) placed.2 in
     let s : StreamFields = l.pace.stream in

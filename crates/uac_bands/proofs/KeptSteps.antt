@@ -4,10 +4,10 @@ use Rattle.std.specs.List.{filter, fold}
 use Rattle.std.specs.Option.{option_map_or}
 use Rattle.uac_units.specs.Hearing.{at_most_u64}
 use Rattle.uac_device.specs.DeviceWorld.{after_advance, feedback_in, next_ticks, set_jack, after_settling, after_tick}
-use Rattle.uac_script.specs.Phrase.{SaidMark}
+use Rattle.uac_script.specs.Phrase.{PhraseMark}
 use Rattle.uac_transcript.specs.declared.report.StreamCounts.{StreamCounts}
-use Rattle.uac_streaming.specs.Telling.{at_rest}
-use Rattle.uac_streaming.specs.StreamingWorld.{StreamingWorld, all_reported, all_settled, fetched_lines, found_counts, in_packet_turn, in_packets, is_in_due, is_out_due, loses_in, loses_out, loses_report, numbers, out_packets, out_turn, packet_fetched, packet_sent, report_lines, report_made, report_turn, sent_lines, settled_turn}
+use Rattle.uac_streaming.specs.Telling.{without_event}
+use Rattle.uac_streaming.specs.StreamingWorld.{StreamingWorld, all_reported, all_settled, fetched_lines, found_counts, in_packet_turn, in_packets, is_in_due, is_out_due, loses_in, loses_out, loses_report, numbers, out_packets, out_turn, packet_fetched, packet_sent, feedback_lines, report_made, report_turn, sent_lines, settled_turn}
 use Rattle.uac_running.specs.declared.jacks.Jack.{Jack}
 use Rattle.uac_running.specs.RunningWorld.{RunningWorld, streaming_of, with_streaming}
 use Rattle.uac_running.specs.Events.{after_all_jacks, domain_microframe, domain_microframes, ends_and_reports, microframe, next_frame, packets_and_ticks, tick, tick_times}
@@ -30,14 +30,14 @@ module _ (P : StreamingWorld → Type 0) (each : IsKeptByEach P) where
 
   -- ---- streams
 
-  module _ (detail : ℕ) (marks : List SaidMark) where
+  module _ (detail : ℕ) (marks : List PhraseMark) where
     out_keeps : (n : ℕ) (w : StreamingWorld) → P w → P (out_turn detail marks n w).world
     unfolding out_turn
     out_keeps n w is = by (is_out_due w n)
       where
         by : (b : Bool)
             → P (if b then record { lines = sent_lines detail (loses_out marks n) n w; world = packet_sent (loses_out marks n) n w }
-            else at_rest w).world
+            else without_event w).world
         by true = each.sends (loses_out marks n) n w is
         by false = is
 
@@ -47,7 +47,7 @@ module _ (P : StreamingWorld → Type 0) (each : IsKeptByEach P) where
       where
         by : (b : Bool)
             → P (if b then record { lines = fetched_lines detail (loses_in marks n) n w; world = packet_fetched (loses_in marks n) n w }
-            else at_rest w).world
+            else without_event w).world
         by true = each.fetches (loses_in marks n) n w is
         by false = is
 
@@ -60,8 +60,8 @@ module _ (P : StreamingWorld → Type 0) (each : IsKeptByEach P) where
     report_keeps n w is = by (feedback_in w.device n)
       where
         by : (o : Option ℕ)
-            → P (option_map_or (λ value. record { lines = report_lines detail (loses_report marks n) value n; world = report_made (loses_report marks n) value n w })
-            o (at_rest w)).world
+            → P (option_map_or (λ value. record { lines = feedback_lines detail (loses_report marks n) value n; world = report_made (loses_report marks n) value n w })
+            o (without_event w)).world
         by None = is
         by (Some value) = each.reports (loses_report marks n) value n w is
 
@@ -117,26 +117,26 @@ module _ (P : StreamingWorld → Type 0) (each : IsKeptByEach P) where
 
   -- ---- a microframe
 
-  pub before_ticks_keep : (marks : List SaidMark) (r : RunningWorld) → Now r
+  pub before_ticks_keep : (marks : List PhraseMark) (r : RunningWorld) → Now r
       → (let sent = with_streaming r (out_packets r.detail marks (streaming_of r)).world in
       Now (with_streaming sent (in_packets sent.detail marks (streaming_of sent)).world))
   before_ticks_keep marks r is =
       let sent = with_streaming r (out_packets r.detail marks (streaming_of r)).world in
       all_in_keep r.detail marks (streaming_of sent) (all_out_keep r.detail marks (streaming_of r) is)
 
-  pub before_the_end_keep : (marks : List SaidMark) (r : RunningWorld) → Now r → Now (packets_and_ticks marks r).world
+  pub before_the_end_keep : (marks : List PhraseMark) (r : RunningWorld) → Now r → Now (packets_and_ticks marks r).world
   unfolding packets_and_ticks
   before_the_end_keep marks r is =
       let sent = with_streaming r (out_packets r.detail marks (streaming_of r)).world in
       let fetched = with_streaming sent (in_packets sent.detail marks (streaming_of sent)).world in
       domains_keep fetched.device.function.domains fetched (before_ticks_keep marks r is)
 
-  the_end_keeps : (marks : List SaidMark) (r : RunningWorld) → Now r → Now (ends_and_reports marks r).world
+  the_end_keeps : (marks : List PhraseMark) (r : RunningWorld) → Now r → Now (ends_and_reports marks r).world
   unfolding ends_and_reports
   the_end_keeps marks r is =
       all_reported_keep r.detail marks (all_settled r.detail (streaming_of r)).world (all_settled_keep r.detail marks (streaming_of r) is)
 
-  pub microframe_keeps : (marks : List SaidMark) (r : RunningWorld) → Now r → Now (microframe marks r).world
+  pub microframe_keeps : (marks : List PhraseMark) (r : RunningWorld) → Now r → Now (microframe marks r).world
   unfolding microframe
   microframe_keeps marks r is =
       let numbered : RunningWorld = record r { time = at_most_u64 (r.time + 1) } in

@@ -6,7 +6,7 @@ pub mod Ticked
 pub mod Lived
 pub mod Stayed
 pub mod Fed
-pub mod Ordered
+pub mod ProjectionLemmas
 pub mod Numbers
 pub mod Played
 pub mod Steady
@@ -21,6 +21,6 @@ pub mod LookingBack
 pub mod Asked
 pub mod Requested
 pub mod Transferred
-pub mod SoundRuns
-pub mod SoundTransfers
-pub mod SoundStart
+pub mod BandTransfersRunLemmas
+pub mod BandTransfersLemmas
+pub mod BandTransfersStartLemmas

@@ -9,10 +9,10 @@ use Rattle.uac_topology.specs.Function.{FunctionFields, interface_in}
 use Rattle.uac_graph.specs.Meaning.{entity}
 use Rattle.uac_flow.specs.FlowStreams.{OutStream, after_packet, feedback_of, is_due}
 use Rattle.uac_host.specs.HostWorld.{Pace, Track}
-use Rattle.uac_host.specs.Calls.{packet_of, pace_after_report, pace_after_packet}
+use Rattle.uac_host.specs.HostCalls.{packet_of, pace_after_report, pace_after_packet}
 use Rattle.uac_device.specs.DeviceWorld.{Domain, step_in}
-use Rattle.uac_script.specs.Phrase.{SaidMark}
-use Rattle.uac_streaming.specs.StreamingWorld.{StreamingWorld, all_reported, all_settled, goes_out, in_packet_turn, in_packets, loses_out, loses_report, numbers, out_packets, out_turn, packet_to, place_of, goes_out, report_turn, settled_turn}
+use Rattle.uac_script.specs.Phrase.{PhraseMark}
+use Rattle.uac_streaming.specs.StreamingWorld.{StreamingWorld, all_reported, all_settled, goes_out, in_packet_turn, in_packets, loses_out, loses_report, numbers, out_packets, out_turn, packet_to, stream_index, goes_out, report_turn, settled_turn}
 use Rattle.uac_running.specs.RunningWorld.{RunningWorld, streaming_of, with_streaming}
 use Rattle.uac_running.specs.Events.{domain_microframes, ends_and_reports, microframe, packets_and_ticks}
 use Rattle.uac_bands.specs.Life.{Life, domain_id_on, domain_on, life_after, life_of, with_end, with_feedback, with_packet, with_step}
@@ -27,7 +27,7 @@ mapped f (Some x) y e = (x, refl, cc)
 
 -- ---- the parts of a microframe
 
-module _ (p : Place) (is : IsPlace p) (small : All (λ s. s.number < 256) p.function.streams) (marks : List SaidMark) where
+module _ (p : Place) (is : IsPlace p) (small : All (λ s. s.number < 256) p.function.streams) (marks : List PhraseMark) where
   among : (w : StreamingWorld) (l : Life) (t : Track) → Shows p w l t → Among p.interface (numbers w.device.function)
   among w l t s =
       let found = mapped _ (interface_in p.function p.interface) p.clock is.on_clock in
@@ -110,7 +110,7 @@ opened r interface l d runs goes_on =
     option_and_then_some _ (r.device.outs interface) l runs.life (λ out outs after_out.
     option_and_then_some _ (r.host.paces interface) l after_out (λ pace paces after_pace.
     option_and_then_some _ (domain_on r interface) l after_pace (λ d' domain after_domain.
-    (let placed = mapped _ (place_of r.device.function interface) l after_domain in
+    (let placed = mapped _ (stream_index r.device.function interface) l after_domain in
     let one : d' ≡ d = let both : Some d' ≡ Some d = sym domain ∙ runs.domain in cc in
     let steps : d.steps ≡ l.steps = sym (ap (λ (e : Domain). e.steps) one) ∙ ap (λ (m : Life). m.steps) placed.2 in
     goes_on clock placed.0 (sym steps) (record { out = runs.out; on_clock = on_clock; placed = placed.1 }) (record {
@@ -141,7 +141,7 @@ closed r p l t is s = record {
     life out pace d place = record { out = out; pace = pace; steps = d.steps; reports = r.history.feedback place }
 
     in_turn : Option ℕ
-    in_turn = place_of r.device.function p.interface
+    in_turn = stream_index r.device.function p.interface
 
     at_domain : Option Domain
     at_domain = domain_on r p.interface
@@ -152,8 +152,8 @@ closed r p l t is s = record {
         ∙ ap (λ (o : Option ℕ). option_and_then (λ clock. find (λ d. d.id == clock) r.device.domains) o) is.on_clock
         ∙ s.domain
 
-    placed : place_of r.device.function p.interface ≡ Some p.place
-    placed = ap (λ (f : FunctionFields). place_of f p.interface) s.function ∙ is.placed
+    placed : stream_index r.device.function p.interface ≡ Some p.place
+    placed = ap (λ (f : FunctionFields). stream_index f p.interface) s.function ∙ is.placed
 
 -- the steps of its clock
 steps_after : (packet : Option (List ℕ)) (step : ℕ) (lost : Bool) (l : Life) → (life_after packet step lost l).steps ≡ l.steps ++ step ∷ []
@@ -176,7 +176,7 @@ unfolding step_in
 step_is r interface d clock place = refl
 
 -- what a microframe makes of a stream, and of its track
-lived_and_tracked : (marks : List SaidMark) (r : RunningWorld) (interface : ℕ) (l : Life) (d : Domain) → IsOrdered r.device → Runs r interface l d
+lived_and_tracked : (marks : List PhraseMark) (r : RunningWorld) (interface : ℕ) (l : Life) (d : Domain) → IsOrdered r.device → Runs r interface l d
     → Runs (microframe marks r).world interface (next_life marks r interface l d) (next_domain r d)
     × ((microframe marks r).world.host.tracks interface ≡ next_track l (r.host.tracks interface))
 lived_and_tracked marks r interface l d ordered runs = opened r interface l d runs (λ clock place steps is s.

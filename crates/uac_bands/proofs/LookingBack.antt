@@ -7,8 +7,8 @@ use Rattle.uac_rate.specs.Steadiness.{SteadyHistory, eight_streams, has_four_los
 use Rattle.uac_alt.specs.AltStreams.{StreamFields}
 use Rattle.uac_request.specs.declared.setup.Setup.{Setup}
 use Rattle.uac_device.specs.DeviceWorld.{DeviceWorld, after_control, stream_in_setting}
-use Rattle.uac_script.specs.Phrase.{SaidMark}
-use Rattle.uac_streaming.specs.StreamingWorld.{StreamingWorld, after_following, given_at, packet_fetched, packet_sent, place_of, report_made}
+use Rattle.uac_script.specs.Phrase.{PhraseMark}
+use Rattle.uac_streaming.specs.StreamingWorld.{StreamingWorld, after_following, given_at, packet_fetched, packet_sent, stream_index, report_made}
 use Rattle.uac_running.specs.RunningWorld.{RunningWorld, streaming_of, with_deviation}
 use Rattle.uac_running.specs.RunningTransfers.{acts, holds_setting, after_transfer}
 use Rattle.uac_running.specs.Events.{microframe, microframes}
@@ -69,16 +69,16 @@ module _ (g : SteadyHistory) where
     sends = λ lost n w leads. leads;
     fetches = λ lost n w leads. leads;
     ends = λ n w leads. leads;
-    reports = λ lost value n w leads. placed lost w.history leads (place_of w.device.function n);
+    reports = λ lost value n w leads. placed lost w.history leads (stream_index w.device.function n);
     jacks = λ terminal frame w leads. leads;
     ticks = λ c met w leads. leads;
     goes_on = λ c w leads. leads;
   }
 
-  microframe_leads : (marks : List SaidMark) (r : RunningWorld) → Leads (streaming_of r) → Leads (streaming_of (microframe marks r).world)
+  microframe_leads : (marks : List PhraseMark) (r : RunningWorld) → Leads (streaming_of r) → Leads (streaming_of (microframe marks r).world)
   microframe_leads = microframe_keeps Leads leads_each
 
-  microframes_lead : (marks : List SaidMark) (count : ℕ) (r : RunningWorld) → Leads (streaming_of r)
+  microframes_lead : (marks : List PhraseMark) (count : ℕ) (r : RunningWorld) → Leads (streaming_of r)
       → Leads (streaming_of (microframes marks count r).world)
   unfolding microframes
   microframes_lead marks zero r leads = leads
@@ -140,9 +140,9 @@ transfer_looks_back r p bytes h = by (holds_setting p bytes r) h
     at None steady = steady
     at (Some place) steady = start_before place r.history steady
 
-    begins : (b : Bool) → is_steady (if b then given_at (place_of device.function p.index) with_restart_given r.history else r.history) ≡ true
+    begins : (b : Bool) → is_steady (if b then given_at (stream_index device.function p.index) with_restart_given r.history else r.history) ≡ true
         → is_steady r.history ≡ true
-    begins true steady = at (place_of device.function p.index) steady
+    begins true steady = at (stream_index device.function p.index) steady
     begins false steady = steady
 
     by : (b : Bool)

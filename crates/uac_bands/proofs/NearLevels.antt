@@ -9,11 +9,11 @@ use Rattle.uac_rate.specs.Levels.{Within}
 use Rattle.uac_rate.specs.Steadiness.{one_more}
 use Rattle.uac_alt.specs.AltStreams.{StreamFields}
 use Rattle.uac_flow.specs.FlowStreams.{OutStream, feedback_of, is_due, out_level, settled_out}
-use Rattle.uac_host.specs.Calls.{pace_after_report}
+use Rattle.uac_host.specs.HostCalls.{pace_after_report}
 use Rattle.uac_host.specs.HostWorld.{Track}
-use Rattle.uac_lanes.specs.InterfaceStreams.{either_due, level_in}
+use Rattle.uac_device_streams.specs.InterfaceStreams.{either_due, level_in}
 use Rattle.uac_device.specs.DeviceWorld.{DeviceWorld, Domain, after_advance, is_due_in, level_of, next_ticks, after_settling, step_in, target_of}
-use Rattle.uac_script.specs.Phrase.{SaidMark}
+use Rattle.uac_script.specs.Phrase.{PhraseMark}
 use Rattle.uac_transcript.specs.Transcript.{Said, says_level, says_over, says_under}
 use Rattle.uac_streaming.specs.StreamingWorld.{StreamingWorld, all_settled, finds_empty, finds_full, goes_out, loses_out, loses_report, numbers, out_packets, settled_turn}
 use Rattle.uac_running.specs.RunningWorld.{RunningWorld, streaming_of}
@@ -50,7 +50,7 @@ module _ (Q : ℕ → ℕ → Type 0) (k : ℕ) where
 
   -- ---- packets and ticks tell no level
 
-  outs_near : (detail : ℕ) (marks : List SaidMark) (w : StreamingWorld) → All IsNear (out_packets detail marks w).lines
+  outs_near : (detail : ℕ) (marks : List PhraseMark) (w : StreamingWorld) → All IsNear (out_packets detail marks w).lines
   outs_near = outs_say IsNear quiet (λ interface level target same. absurd (cc))
 
   tick_near : (c : ℕ) (r : RunningWorld) → All IsNear (tick c r).lines
@@ -99,7 +99,7 @@ module _ (Q : ℕ → ℕ → Type 0) (k : ℕ) where
       turns_once_say IsNear (settled_turn detail) k (end_other detail) (RunsNone k) (λ n v other nothing. settled_none k detail n v nothing)
       (end_none detail) (numbers w.device.function) w (numbers_differ w.device.function) none
 
-  pub none_near : (marks : List SaidMark) (r : RunningWorld) → RestsNow k r → All IsNear (microframe marks r).lines
+  pub none_near : (marks : List PhraseMark) (r : RunningWorld) → RestsNow k r → All IsNear (microframe marks r).lines
   none_near marks r none =
       microframe_says IsNear quiet marks r (outs_near r.detail marks (streaming_of (numbered r)))
       (ticks_near (fetched marks r).device.function.domains (fetched marks r))
@@ -181,7 +181,7 @@ near_then Q packet step lost l so due target is =
     ∙ is_zero ((x.microframes + 1) % x.stream.service) due in
     subst (λ (o : OutStream). Q (out_level o) target) out (so target ends (ap (λ (o : OutStream). o.target) out ∙ is))
 
-pub some_near : (Q : ℕ → ℕ → Type 0) (marks : List SaidMark) (r : RunningWorld) (k : ℕ) (l : Life) (d : Domain) → RunInBand r → StreamInBand r k l d
+pub some_near : (Q : ℕ → ℕ → Type 0) (marks : List PhraseMark) (r : RunningWorld) (k : ℕ) (l : Life) (d : Domain) → RunInBand r → StreamInBand r k l d
     → EndsSo Q (next_life marks r k l d) → All (IsNear Q k) (microframe marks r).lines
 some_near Q marks r k l d band stream so = opened r k l d stream.runs (λ clock place steps is s.
     (let p : Place = place_in r k d clock place in

@@ -9,10 +9,10 @@ use Rattle.std.proofs.lemmas.Map.Keys.{IsDistinct-head, IsDistinct-tail}
 use Rattle.uac_clock.specs.Ticks.{ticks_in}
 use Rattle.uac_topology.specs.Function.{FunctionFields}
 use Rattle.uac_flow.specs.FlowStreams.{OutStream, after_packet, after_taking, after_ticks, is_dry, is_due}
-use Rattle.uac_host.specs.Calls.{pace_after_packet}
+use Rattle.uac_host.specs.HostCalls.{pace_after_packet}
 use Rattle.uac_host.specs.HostWorld.{Track}
 use Rattle.uac_device.specs.DeviceWorld.{DeviceWorld, Domain, after_advance, is_on, next_ticks, step_in}
-use Rattle.uac_script.specs.Phrase.{SaidMark}
+use Rattle.uac_script.specs.Phrase.{PhraseMark}
 use Rattle.uac_transcript.specs.Transcript.{Said, says_over, says_under}
 use Rattle.uac_streaming.specs.StreamingWorld.{StreamingWorld, all_settled, finds_empty, finds_full, loses_out, out_packets}
 use Rattle.uac_running.specs.declared.jacks.Jack.{Jack}
@@ -45,7 +45,7 @@ module _ (k : ℕ) where
     feedback = λ interface value lost same. cc;
   }
 
-  outs_not : (detail : ℕ) (marks : List SaidMark) (w : StreamingWorld) → All NotUnder (out_packets detail marks w).lines
+  outs_not : (detail : ℕ) (marks : List PhraseMark) (w : StreamingWorld) → All NotUnder (out_packets detail marks w).lines
   outs_not = outs_say NotUnder quiet (λ interface same. cc)
 
   ends_not : (detail : ℕ) (w : StreamingWorld) → All NotUnder (all_settled detail w).lines
@@ -73,7 +73,7 @@ module _ (k : ℕ) where
       ticks_say NotUnder quiet (RestsNow k) c (none_tick c) (tick_none k c) (next_ticks c r.device) (record r { device = after_advance c r.device })
       (advanced_none k c r none)
 
-  none_says : (marks : List SaidMark) (r : RunningWorld) → RestsNow k r → All NotUnder (microframe marks r).lines
+  none_says : (marks : List PhraseMark) (r : RunningWorld) → RestsNow k r → All NotUnder (microframe marks r).lines
   none_says marks r none =
       microframe_says NotUnder quiet marks r (outs_not r.detail marks (streaming_of (numbered r)))
       (domains_say NotUnder quiet (RestsNow k) none_domain (domain_none k) (fetched marks r).device.function.domains (fetched marks r)
@@ -176,7 +176,7 @@ steps_with_packet packet l = by (is_due l.out.stream l.out.microframes)
     by true = refl
     by false = refl
 
-some_says : (marks : List SaidMark) (r : RunningWorld) (k : ℕ) (l : Life) (d : Domain) → RunInBand r → StreamInBand r k l d
+some_says : (marks : List PhraseMark) (r : RunningWorld) (k : ℕ) (l : Life) (d : Domain) → RunInBand r → StreamInBand r k l d
     → All (NotUnder k) (microframe marks r).lines
 some_says marks r k l d band stream = opened r k l d stream.runs (λ clock place steps is s.
     (let p : Place = place_in r k d clock place in

@@ -7,7 +7,7 @@ use Rattle.std.proofs.lemmas.List.Elements.{All-head, All-tail}
 use Rattle.std.proofs.lemmas.Map.Keys.{IsDistinct-cons, IsDistinct-head, IsDistinct-tail}
 use Rattle.uac_entities.specs.declared.stream.StreamInterface.{StreamInterface}
 use Rattle.uac_topology.specs.Function.{FunctionFields, interface_in}
-use Rattle.uac_lanes.specs.InterfaceStreams.{changed_at, changed_where}
+use Rattle.uac_device_streams.specs.InterfaceStreams.{changed_at, changed_where}
 use Rattle.uac_device.specs.DeviceWorld.{Domain}
 use Rattle.uac_mixer.proofs.Apart.{numbers_apart}
 use Rattle.uac_streaming.specs.Telling.{Telling, in_turn}

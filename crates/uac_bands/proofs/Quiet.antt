@@ -10,12 +10,12 @@ use Rattle.uac_entities.specs.declared.stream.StreamInterface.{StreamInterface}
 use Rattle.uac_flow.specs.declared.arrival.Arrival.{Arrival}
 use Rattle.uac_flow.specs.declared.arrival.Arrival.TheVariants as arrivals
 use Rattle.uac_device.specs.DeviceWorld.{DeviceWorld, arrival_in, feedback_in, frames_in, is_due_in, level_of, packet_in, after_settling, target_of, after_tick}
-use Rattle.uac_host.specs.Calls.{heard_in, size_of}
-use Rattle.uac_script.specs.Phrase.{SaidMark}
+use Rattle.uac_host.specs.HostCalls.{heard_in, size_of}
+use Rattle.uac_script.specs.Phrase.{PhraseMark}
 use Rattle.uac_transcript.specs.declared.packets.PrintedArrival as printed
 use Rattle.uac_transcript.specs.Transcript.{Said, says_feedback, says_frame, says_in, says_level, says_out, says_over, says_played, says_time, says_under}
-use Rattle.uac_streaming.specs.Telling.{Telling, at_rest, in_turn}
-use Rattle.uac_streaming.specs.StreamingWorld.{StreamingWorld, all_reported, all_settled, arrived_as, fetched_lines, finds_empty, finds_full, found_lines, goes_out, in_lines, in_packet_turn, in_packets, is_in_due, is_out_due, loses_in, loses_out, loses_report, numbers, out_lines, out_packets, out_turn, over_lines, packet_fetched, packet_sent, packet_to, report_lines, report_made, report_turn, sent_lines, settled_turn}
+use Rattle.uac_streaming.specs.Telling.{Telling, without_event, in_turn}
+use Rattle.uac_streaming.specs.StreamingWorld.{StreamingWorld, all_reported, all_settled, arrived_as, fetched_lines, finds_empty, finds_full, found_lines, goes_out, in_lines, in_packet_turn, in_packets, is_in_due, is_out_due, loses_in, loses_out, loses_report, numbers, out_lines, out_packets, out_turn, over_lines, packet_fetched, packet_sent, packet_to, feedback_lines, report_made, report_turn, sent_lines, settled_turn}
 use Rattle.uac_units.specs.Hearing.{at_most_u64}
 use Rattle.uac_running.specs.RunningWorld.{RunningWorld, streaming_of, with_streaming}
 use Rattle.uac_running.specs.Events.{all_domains, after_all_jacks, domain_microframe, domain_microframes, ends_and_reports, followed_by, microframe, number_said, of_streams, packets_and_ticks, tick, tick_times}
@@ -36,13 +36,13 @@ abbrev pub numbered : RunningWorld → RunningWorld
 numbered r = record r { time = at_most_u64 (r.time + 1) }
 
 -- after its packets
-abbrev pub fetched : List SaidMark → RunningWorld → RunningWorld
+abbrev pub fetched : List PhraseMark → RunningWorld → RunningWorld
 fetched marks r =
     let sent = with_streaming (numbered r) (out_packets r.detail marks (streaming_of (numbered r))).world in
     with_streaming sent (in_packets r.detail marks (streaming_of sent)).world
 
 -- and after its ticks
-abbrev pub ticked_on : List SaidMark → RunningWorld → RunningWorld
+abbrev pub ticked_on : List PhraseMark → RunningWorld → RunningWorld
 ticked_on marks r = (packets_and_ticks marks (numbered r)).world
 
 -- ---- rows
@@ -122,7 +122,7 @@ module _ (N : Said → Type 0) (quiet : IsQuiet N) where
       All-append N (if nat_le 2 detail then says_out interface frames (arrived_as arrival) ∷ [] else []) (over_lines interface arrival)
       (maybe_one (nat_le 2 detail) (says_out interface frames (arrived_as arrival)) (quiet.out interface frames (arrived_as arrival))) overs
 
-  pub out_turn_says : (detail : ℕ) (marks : List SaidMark) (n : ℕ) (w : StreamingWorld)
+  pub out_turn_says : (detail : ℕ) (marks : List PhraseMark) (n : ℕ) (w : StreamingWorld)
       → (is_out_due w n ≡ true → All N (over_lines n (arrival_in w.device n (packet_to (loses_out marks n) n w))))
       → All N (out_turn detail marks n w).lines
   unfolding out_turn
@@ -133,12 +133,12 @@ module _ (N : Said → Type 0) (quiet : IsQuiet N) where
 
       by : (b : Bool) → (b ≡ true → All N (over_lines n arrival))
           → All N (if b then record { lines = sent_lines detail (loses_out marks n) n w; world = packet_sent (loses_out marks n) n w }
-          else at_rest w).lines
+          else without_event w).lines
       by true here = out_quiet detail n (size_of w.host n) arrival (here refl)
       by false here = All-nil N
 
   -- where it holds of those of rings that are full, too
-  pub outs_say : ((interface : ℕ) → N (says_over interface)) → (detail : ℕ) (marks : List SaidMark) (w : StreamingWorld)
+  pub outs_say : ((interface : ℕ) → N (says_over interface)) → (detail : ℕ) (marks : List PhraseMark) (w : StreamingWorld)
       → All N (out_packets detail marks w).lines
   unfolding out_packets
   outs_say over detail marks w =
@@ -167,13 +167,13 @@ module _ (N : Said → Type 0) (quiet : IsQuiet N) where
       by true = frames_quiet interface heard
       by false = All-nil N
 
-  in_turn_quiet : (detail : ℕ) (marks : List SaidMark) (n : ℕ) (w : StreamingWorld) → All N (in_packet_turn detail marks n w).lines
+  in_turn_quiet : (detail : ℕ) (marks : List PhraseMark) (n : ℕ) (w : StreamingWorld) → All N (in_packet_turn detail marks n w).lines
   unfolding in_packet_turn
   in_turn_quiet detail marks n w = by (is_in_due w n)
     where
       by : (b : Bool)
           → All N (if b then record { lines = fetched_lines detail (loses_in marks n) n w; world = packet_fetched (loses_in marks n) n w }
-          else at_rest w).lines
+          else without_event w).lines
       by true = in_quiet detail (loses_in marks n) n (frames_in w.device n) (heard_in w.host n (packet_in w.device n))
       by false = All-nil N
 
@@ -188,21 +188,21 @@ module _ (N : Said → Type 0) (quiet : IsQuiet N) where
       (says_level n (level_of (after_settling n v.device) n) (target_of (after_settling n v.device) n))
       (level n (level_of (after_settling n v.device) n) (target_of (after_settling n v.device) n))) (numbers w.device.function) w
 
-  report_turn_quiet : (detail : ℕ) (marks : List SaidMark) (n : ℕ) (w : StreamingWorld) → All N (report_turn detail marks n w).lines
+  report_turn_quiet : (detail : ℕ) (marks : List PhraseMark) (n : ℕ) (w : StreamingWorld) → All N (report_turn detail marks n w).lines
   unfolding report_turn
   report_turn_quiet detail marks n w = by (feedback_in w.device n)
     where
       by : (o : Option ℕ)
-          → All N (option_map_or (λ value. record { lines = report_lines detail (loses_report marks n) value n; world = report_made (loses_report marks n) value n w })
-          o (at_rest w)).lines
+          → All N (option_map_or (λ value. record { lines = feedback_lines detail (loses_report marks n) value n; world = report_made (loses_report marks n) value n w })
+          o (without_event w)).lines
       by None = All-nil N
       by (Some value) = maybe_one (nat_le 2 detail) (says_feedback n value (loses_report marks n)) (quiet.feedback n value (loses_report marks n))
 
-  all_in_quiet : (detail : ℕ) (marks : List SaidMark) (w : StreamingWorld) → All N (in_packets detail marks w).lines
+  all_in_quiet : (detail : ℕ) (marks : List PhraseMark) (w : StreamingWorld) → All N (in_packets detail marks w).lines
   unfolding in_packets
   all_in_quiet detail marks w = turns_say N (in_packet_turn detail marks) (in_turn_quiet detail marks) (numbers w.device.function) w
 
-  all_reported_quiet : (detail : ℕ) (marks : List SaidMark) (w : StreamingWorld) → All N (all_reported detail marks w).lines
+  all_reported_quiet : (detail : ℕ) (marks : List PhraseMark) (w : StreamingWorld) → All N (all_reported detail marks w).lines
   unfolding all_reported
   all_reported_quiet detail marks w = turns_say N (report_turn detail marks) (report_turn_quiet detail marks) (numbers w.device.function) w
 
@@ -253,7 +253,7 @@ module _ (N : Said → Type 0) (quiet : IsQuiet N) where
   -- ---- a microframe
 
   -- all its lines, by those of its packets to the device, of its ticks and of its end
-  pub microframe_says : (marks : List SaidMark) (r : RunningWorld) → All N (out_packets r.detail marks (streaming_of (numbered r))).lines
+  pub microframe_says : (marks : List PhraseMark) (r : RunningWorld) → All N (out_packets r.detail marks (streaming_of (numbered r))).lines
       → All N (domain_microframes (fetched marks r).device.function.domains (fetched marks r)).lines
       → All N (all_settled (ticked_on marks r).detail (streaming_of (ticked_on marks r))).lines → All N (microframe marks r).lines
   unfolding microframe packets_and_ticks ends_and_reports

@@ -3,15 +3,15 @@ use Rattle.std.proofs.Common.{◌≡◌, refl, ℕ, ◌&&◌, not, Bool, true, f
 use Rattle.uac_rate.specs.Steadiness.{SteadyHistory}
 use Rattle.uac_rate.specs.Steadiness as steadiness
 use Rattle.uac_alt.specs.AltStreams.{StreamFields}
-use Rattle.uac_request.specs.Requests.{RequestState, after_request, request_state, reply_of, sets_interface}
+use Rattle.uac_request.specs.Requests.{RequestState, after_request, request_state, reply_of, sets_interface, is_done_answer}
 use Rattle.uac_request.specs.declared.setup.Setup.{Setup}
-use Rattle.uac_host.specs.Calls.{with_stream}
-use Rattle.uac_device.specs.DeviceWorld.{DeviceWorld, after_control, after_restart, stream_in_setting, tells_done}
+use Rattle.uac_host.specs.HostCalls.{with_stream}
+use Rattle.uac_device.specs.DeviceWorld.{DeviceWorld, after_control, after_restart, stream_in_setting}
 use Rattle.uac_mixer.specs.declared.link.When.{When}
 use Rattle.uac_mixer.specs.declared.link.When.TheVariants as when
 use Rattle.uac_mixer.specs.ViewTransfers.{view_after}
 use Rattle.uac_mixer.specs.ViewWorld.{ViewWorld}
-use Rattle.uac_streaming.specs.StreamingWorld.{after_following, given_at, place_of}
+use Rattle.uac_streaming.specs.StreamingWorld.{after_following, given_at, stream_index}
 use Rattle.uac_running.specs.RunningWorld.{RunningWorld, streaming_of, with_streaming}
 use Rattle.uac_running.specs.RunningTransfers.{acts, breaks_before, comes_back, after_transfer}
 
@@ -24,7 +24,7 @@ module _ (p : Setup) (bytes : List ℕ) (r : RunningWorld) where
   after = after_request r.device.function held p bytes
 
   abbrev pub done : Bool
-  done = tells_done (reply_of r.device.function held p bytes)
+  done = is_done_answer (reply_of r.device.function held p bytes)
 
   -- the device after a request that acts alone
   abbrev pub asked_device : DeviceWorld
@@ -35,7 +35,7 @@ module _ (p : Setup) (bytes : List ℕ) (r : RunningWorld) where
   begun = stream_in_setting r.device.function r.device.controls p.index p.value
 
   abbrev pub given_then : SteadyHistory
-  given_then = if is_some begun then given_at (place_of r.device.function p.index) steadiness.with_restart_given r.history else r.history
+  given_then = if is_some begun then given_at (stream_index r.device.function p.index) steadiness.with_restart_given r.history else r.history
 
   abbrev pub view_then : ViewWorld
   view_then = view_after r.device.function.control_interface p bytes (comes_back p bytes r) r.view

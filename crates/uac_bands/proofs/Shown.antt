@@ -13,14 +13,14 @@ use Rattle.uac_rate.specs.Steadiness as steadiness
 use Rattle.uac_graph.specs.Meaning.{entity}
 use Rattle.uac_flow.specs.FlowStreams.{OutStream, after_packet, feedback_of, is_due, settled_out}
 use Rattle.uac_host.specs.HostWorld.{Pace, Track}
-use Rattle.uac_host.specs.Calls.{after_frames, next_frames, next_size, packet_of, pace_after_report, pace_after_packet, size_of, with_report}
-use Rattle.uac_host.specs.Calls.{after_packet as host_sends}
-use Rattle.uac_lanes.specs.InterfaceStreams.{either_due}
+use Rattle.uac_host.specs.HostCalls.{track_after_frames, next_frames, next_size, packet_of, pace_after_report, pace_after_packet, size_of, with_report}
+use Rattle.uac_host.specs.HostCalls.{after_host_packet as host_sends}
+use Rattle.uac_device_streams.specs.InterfaceStreams.{either_due}
 use Rattle.uac_device.specs.DeviceWorld.{Domain, feedback_in, is_due_in, after_receiving, after_settling}
 use Rattle.uac_device.specs.DeviceWorld.{after_sending_packet as device_sends}
-use Rattle.uac_script.specs.Phrase.{SaidMark}
-use Rattle.uac_streaming.specs.Telling.{at_rest}
-use Rattle.uac_streaming.specs.StreamingWorld.{StreamingWorld, fetched_lines, given_at, goes_out, in_packet_turn, is_in_due, is_out_due, loses_in, loses_out, loses_report, out_turn, packet_fetched, packet_sent, place_of, report_lines, report_made, report_turn, sent_lines, settled_turn}
+use Rattle.uac_script.specs.Phrase.{PhraseMark}
+use Rattle.uac_streaming.specs.Telling.{without_event}
+use Rattle.uac_streaming.specs.StreamingWorld.{StreamingWorld, fetched_lines, given_at, goes_out, in_packet_turn, is_in_due, is_out_due, loses_in, loses_out, loses_report, out_turn, packet_fetched, packet_sent, stream_index, feedback_lines, report_made, report_turn, sent_lines, settled_turn}
 use Rattle.uac_bands.specs.Life.{Life, with_end, with_feedback, with_packet}
 use Rattle.uac_bands.proofs.Once.{own_number}
 
@@ -39,7 +39,7 @@ pub record Place : Type 0 where
 pub record IsPlace (p : Place) : Type 0 where
   pub out : goes_out p.function p.interface ≡ true
   pub on_clock : option_map (λ s. (entity p.function.entities s.terminal).clock) (interface_in p.function p.interface) ≡ Some p.clock
-  pub placed : place_of p.function p.interface ≡ Some p.place
+  pub placed : stream_index p.function p.interface ≡ Some p.place
 
 -- the stream has this life in a world, and the host this track for it
 pub record Shows (p : Place) (w : StreamingWorld) (l : Life) (t : Track) : Type 0 where
@@ -67,14 +67,14 @@ packet_at q t = bytes_of_frames q.stream.subslot q.stream.bits (next_frames q.st
 
 -- the track after a packet where that is due
 abbrev pub track_after : Life → Track → Track
-track_after l t = if is_due l.out.stream l.out.microframes then after_frames (next_size l.pace) t else t
+track_after l t = if is_due l.out.stream l.out.microframes then track_after_frames (next_size l.pace) t else t
 
 pub packet_shown : (p : Place) (w : StreamingWorld) (l : Life) (t : Track) → Shows p w l t → packet_of w.host p.interface ≡ packet_at l.pace t
 unfolding packet_of
 packet_shown p w l t s =
     ap (λ (o : Option Pace). option_map_or (λ q. packet_at q (w.host.tracks p.interface)) o []) s.pace ∙ ap (packet_at l.pace) s.track
 
-module _ (p : Place) (detail : ℕ) (marks : List SaidMark) where
+module _ (p : Place) (detail : ℕ) (marks : List PhraseMark) where
   pub out_other : (n : ℕ) (w : StreamingWorld) (l : Life) (t : Track) → (p.interface == n) ≡ false → Shows p w l t
       → Shows p (out_turn detail marks n w).world l t
   unfolding out_turn packet_sent after_receiving host_sends
@@ -82,7 +82,7 @@ module _ (p : Place) (detail : ℕ) (marks : List SaidMark) where
     where
       by : (b : Bool)
           → Shows p (if b then record { lines = sent_lines detail (loses_out marks n) n w; world = packet_sent (loses_out marks n) n w }
-          else at_rest w).world l t
+          else without_event w).world l t
       by true = record {
         function = s.function;
         controls = s.controls;
@@ -99,7 +99,7 @@ module _ (p : Place) (detail : ℕ) (marks : List SaidMark) where
       (with_packet (if loses_out marks p.interface then None else Some (packet_at l.pace t)) l) (track_after l t)
   unfolding out_turn packet_sent after_receiving host_sends is_due_in size_of
   out_here is w l t s =
-      subst (λ (b : Bool). Shows p (if b then record { lines = sent_lines detail (loses_out marks p.interface) p.interface w; world = packet_sent (loses_out marks p.interface) p.interface w } else at_rest w).world (with_packet packet l) (track_after l t))
+      subst (λ (b : Bool). Shows p (if b then record { lines = sent_lines detail (loses_out marks p.interface) p.interface w; world = packet_sent (loses_out marks p.interface) p.interface w } else without_event w).world (with_packet packet l) (track_after l t))
       (sym due) (by (is_due l.out.stream l.out.microframes))
     where
       packet : Option (List ℕ)
@@ -112,9 +112,9 @@ module _ (p : Place) (detail : ℕ) (marks : List SaidMark) where
           ∙ ap (λ (o : Option OutStream). either_due o (w.device.ins p.interface)) s.out
 
       by : (b : Bool)
-          → Shows p (if b then record { lines = sent_lines detail (loses_out marks p.interface) p.interface w; world = packet_sent (loses_out marks p.interface) p.interface w } else at_rest w).world
+          → Shows p (if b then record { lines = sent_lines detail (loses_out marks p.interface) p.interface w; world = packet_sent (loses_out marks p.interface) p.interface w } else without_event w).world
           (if b then record l { out = after_packet packet l.out; pace = pace_after_packet l.pace } else l)
-          (if b then after_frames (next_size l.pace) t else t)
+          (if b then track_after_frames (next_size l.pace) t else t)
       by true = record {
         function = s.function;
         controls = s.controls;
@@ -125,8 +125,8 @@ module _ (p : Place) (detail : ℕ) (marks : List SaidMark) where
         pace = if_true (p.interface == p.interface) _ (w.host.paces p.interface) (own_number p.interface) ∙ ap (option_map pace_after_packet) s.pace;
         track =
             if_true (p.interface == p.interface) _ (w.host.tracks p.interface) (own_number p.interface)
-            ∙ ap (λ (o : Option Pace). after_frames (option_map_or next_size o 0) (w.host.tracks p.interface)) s.pace
-            ∙ ap (after_frames (next_size l.pace)) s.track;
+            ∙ ap (λ (o : Option Pace). track_after_frames (option_map_or next_size o 0) (w.host.tracks p.interface)) s.pace
+            ∙ ap (track_after_frames (next_size l.pace)) s.track;
         domain = s.domain;
         reports = s.reports;
       }
@@ -140,7 +140,7 @@ module _ (p : Place) (detail : ℕ) (marks : List SaidMark) where
     where
       by : (b : Bool)
           → Shows p (if b then record { lines = fetched_lines detail (loses_in marks n) n w; world = packet_fetched (loses_in marks n) n w }
-          else at_rest w).world l t
+          else without_event w).world l t
       by true = record {
         function = s.function;
         controls = s.controls;
@@ -195,12 +195,12 @@ place_other k n i j ss other first second = elim (cases_Bool (i == j)) [
   | inr differ ↦ differ
 ]
 
-module _ (p : Place) (is : IsPlace p) (detail : ℕ) (marks : List SaidMark) where
+module _ (p : Place) (is : IsPlace p) (detail : ℕ) (marks : List PhraseMark) where
   given_other : (lost : Bool) (n : ℕ) (given : SteadyHistory) → (p.interface == n) ≡ false
-      → (given_at (place_of p.function n) (λ place. steadiness.with_report_given place lost) given).feedback p.place ≡ given.feedback p.place
-  given_other lost n given other = by (place_of p.function n) refl
+      → (given_at (stream_index p.function n) (λ place. steadiness.with_report_given place lost) given).feedback p.place ≡ given.feedback p.place
+  given_other lost n given other = by (stream_index p.function n) refl
     where
-      by : (o : Option ℕ) → place_of p.function n ≡ o → (given_at o (λ place. steadiness.with_report_given place lost) given).feedback p.place ≡ given.feedback p.place
+      by : (o : Option ℕ) → stream_index p.function n ≡ o → (given_at o (λ place. steadiness.with_report_given place lost) given).feedback p.place ≡ given.feedback p.place
       by None e = refl
       by (Some j) e = if_false (p.place == j) _ (given.feedback p.place) (place_other p.interface n p.place j p.function.streams other is.placed e)
 
@@ -218,8 +218,8 @@ module _ (p : Place) (is : IsPlace p) (detail : ℕ) (marks : List SaidMark) whe
       tracked false value = s.track
 
       by : (o : Option ℕ)
-          → Shows p (option_map_or (λ value. record { lines = report_lines detail (loses_report marks n) value n; world = report_made (loses_report marks n) value n w })
-          o (at_rest w)).world l t
+          → Shows p (option_map_or (λ value. record { lines = feedback_lines detail (loses_report marks n) value n; world = report_made (loses_report marks n) value n w })
+          o (without_event w)).world l t
       by None = s
       by (Some value) = record {
         function = s.function;
@@ -229,7 +229,7 @@ module _ (p : Place) (is : IsPlace p) (detail : ℕ) (marks : List SaidMark) whe
         track = tracked (loses_report marks n) value;
         domain = s.domain;
         reports =
-            ap (λ (f : FunctionFields). (given_at (place_of f n) (λ place. steadiness.with_report_given place (loses_report marks n)) w.history).feedback p.place) s.function
+            ap (λ (f : FunctionFields). (given_at (stream_index f n) (λ place. steadiness.with_report_given place (loses_report marks n)) w.history).feedback p.place) s.function
             ∙ given_other (loses_report marks n) n w.history other ∙ s.reports;
       }
 
@@ -237,7 +237,7 @@ module _ (p : Place) (is : IsPlace p) (detail : ℕ) (marks : List SaidMark) whe
       → Shows p (report_turn detail marks p.interface w).world (with_feedback (loses_report marks p.interface) l) t
   unfolding report_turn report_made with_report feedback_in
   report_here w l t s =
-      subst (λ (o : Option ℕ). Shows p (option_map_or (λ value. record { lines = report_lines detail lost value p.interface; world = report_made lost value p.interface w }) o (at_rest w)).world (with_feedback lost l) t)
+      subst (λ (o : Option ℕ). Shows p (option_map_or (λ value. record { lines = feedback_lines detail lost value p.interface; world = report_made lost value p.interface w }) o (without_event w)).world (with_feedback lost l) t)
       (sym due) (by (feedback_of l.out))
     where
       lost : Bool
@@ -256,7 +256,7 @@ module _ (p : Place) (is : IsPlace p) (detail : ℕ) (marks : List SaidMark) whe
       tracked false value = s.track
 
       by : (o : Option ℕ)
-          → Shows p (option_map_or (λ value. record { lines = report_lines detail lost value p.interface; world = report_made lost value p.interface w }) o (at_rest w)).world
+          → Shows p (option_map_or (λ value. record { lines = feedback_lines detail lost value p.interface; world = report_made lost value p.interface w }) o (without_event w)).world
           (option_map_or (λ value. record l { pace = if lost then l.pace else pace_after_report value l.pace; reports = steadiness.one_more lost l.reports }) o l) t
       by None = s
       by (Some value) = record {
@@ -267,7 +267,7 @@ module _ (p : Place) (is : IsPlace p) (detail : ℕ) (marks : List SaidMark) whe
         track = tracked lost value;
         domain = s.domain;
         reports =
-            ap (λ (f : FunctionFields). (given_at (place_of f p.interface) (λ place. steadiness.with_report_given place lost) w.history).feedback p.place) s.function
+            ap (λ (f : FunctionFields). (given_at (stream_index f p.interface) (λ place. steadiness.with_report_given place lost) w.history).feedback p.place) s.function
             ∙ ap (λ (o : Option ℕ). (given_at o (λ place. steadiness.with_report_given place lost) w.history).feedback p.place) is.placed
             ∙ if_true (p.place == p.place) _ (w.history.feedback p.place) (own_number p.place)
             ∙ ap (steadiness.one_more lost) s.reports;

@@ -2,8 +2,8 @@
 use Rattle.std.proofs.Common.{◌≡◌, ◌∙◌, sym, refl, ap, subst, ℕ, ◌==◌, ◌<◌, nat_eq, Bool, true, false, if◌then◌else◌, List, [], ◌∷◌, map}
 use Rattle.std.specs.List.{All, IsDistinct}
 use Rattle.uac_topology.specs.Function.{FunctionFields}
-use Rattle.uac_host.specs.Calls.{with_report}
-use Rattle.uac_host.specs.Calls.{after_packet as host_sends}
+use Rattle.uac_host.specs.HostCalls.{with_report}
+use Rattle.uac_host.specs.HostCalls.{after_host_packet as host_sends}
 use Rattle.uac_device.specs.DeviceWorld.{Domain, after_advance, after_receiving, set_jack, after_settling, steps_with_next, after_tick}
 use Rattle.uac_device.specs.DeviceWorld.{after_sending_packet as device_sends}
 use Rattle.uac_streaming.specs.StreamingWorld.{StreamingWorld, packet_fetched, packet_sent, report_made}
@@ -11,7 +11,7 @@ use Rattle.uac_running.specs.RunningWorld.{RunningWorld, with_streaming}
 use Rattle.uac_bands.specs.Projection.{MicroframesKeepOrder, MicroframesKeepTheRest, Stays}
 use Rattle.uac_bands.proofs.Once.{stepped}
 use Rattle.uac_bands.proofs.KeptSteps.{IsKeptByEach, microframe_keeps}
-use Rattle.uac_bands.proofs.Ordered.{clocks_of}
+use Rattle.uac_bands.proofs.ProjectionLemmas.{clocks_of}
 
 -- as before, of streams
 abbrev Stay : RunningWorld → StreamingWorld → Type 0

@@ -3,7 +3,7 @@ use Rattle.std.proofs.Common.{arith, ◌≡◌, ◌∙◌, sym, refl, ap, subst,
 use Rattle.std.specs.Option.{option_map_or}
 use Rattle.std.proofs.lemmas.Bool.{cases_lt}
 use Rattle.uac_clock.specs.declared.values.Nominal.{Nominal}
-use Rattle.uac_clock.specs.Nominal.{HasRoom, IsNominal}
+use Rattle.uac_clock.specs.Nominal.{StaysBetweenWholes, IsNominal}
 use Rattle.uac_clock.proofs.NominalLemmas.{has_room}
 use Rattle.uac_rate.specs.Levels.{AreIntervals, IsSafeLevel, IsInterval, IsRobust, Point, TakesReport, Within, lost_after, value_after}
 use Rattle.uac_rate.specs.Reports.{report_of}
@@ -11,7 +11,7 @@ use Rattle.uac_rate.specs.Steadiness.{latest_run, one_more}
 use Rattle.uac_rate.proofs.LevelsLemmas.{interval_size, moment_held, rates_band, report_held, report_robust}
 use Rattle.uac_alt.specs.AltStreams.{StreamFields}
 use Rattle.uac_flow.specs.FlowStreams.{feedback_of, out_level, priming_level, reports_now}
-use Rattle.uac_host.specs.Calls.{within_nominal, pace_after_report}
+use Rattle.uac_host.specs.HostCalls.{within_nominal, pace_after_report}
 use Rattle.uac_bands.specs.Life.{Life, with_feedback}
 use Rattle.uac_bands.specs.Bands.{HasTicked, InBand, IsAt, IsFollowing, microframes_since_due}
 
@@ -34,7 +34,7 @@ pub record IsEnough (s level came played : ℕ) : Type 0 where
   pub fits : played ≤ level + came
   pub held : IsSafeLevel s (level + came - played)
 
-pub enough : (values : Nominal) (s period : ℕ) (p : Point) (gone steps came played : ℕ) → HasRoom values → AreIntervals s period
+pub enough : (values : Nominal) (s period : ℕ) (p : Point) (gone steps came played : ℕ) → StaysBetweenWholes values → AreIntervals s period
     → IsRobust values 65 s period p → gone ≤ s → Within (gone * values.e) steps (gone * values.f) → played ≤ (p.clock + steps) / 65536
     → (came ≤ (p.host + s * p.value) / 65536) ⊎ (came ≤ (p.clock + steps) / 65536) → IsEnough s p.level came played
 enough values s period p gone steps came played room intervals robust within slight some_ticks some_frames =
@@ -265,7 +265,7 @@ primed_goes m lost target q at few = by (m.out.microframes % m.out.stream.period
     values : Nominal
     values = m.out.stream.nominal
 
-    room : HasRoom values
+    room : StaysBetweenWholes values
     room = has_room values at.ended.nominal
 
     value : ℕ

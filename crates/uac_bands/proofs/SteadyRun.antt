@@ -16,10 +16,10 @@ use Rattle.uac_store.specs.declared.keys.Key.{Key}
 use Rattle.uac_store.specs.Rates.{rate_of}
 use Rattle.uac_alt.specs.AltStreams.{StreamFields}
 use Rattle.uac_flow.specs.FlowStreams.{OutStream, frames_of}
-use Rattle.uac_host.specs.Calls.{next_size, packet_of}
+use Rattle.uac_host.specs.HostCalls.{next_size, packet_of}
 use Rattle.uac_device.specs.DeviceWorld.{Domain, step_in}
-use Rattle.uac_script.specs.Phrase.{SaidMark}
-use Rattle.uac_streaming.specs.StreamingWorld.{loses_out, loses_report, packet_to, place_of}
+use Rattle.uac_script.specs.Phrase.{PhraseMark}
+use Rattle.uac_streaming.specs.StreamingWorld.{loses_out, loses_report, packet_to, stream_index}
 use Rattle.uac_running.specs.RunningWorld.{RunningWorld, streaming_of}
 use Rattle.uac_running.specs.Events.{microframe}
 use Rattle.uac_bands.specs.Life.{Life, domain_on, life_of}
@@ -62,7 +62,7 @@ steady_few given place below steady =
 pub record IsLived (r : RunningWorld) (interface : ℕ) (l : Life) : Type 0 where
   pub out : r.device.outs interface ≡ Some l.out
   pub place : ℕ
-  pub placed : place_of r.device.function interface ≡ Some place
+  pub placed : stream_index r.device.function interface ≡ Some place
   pub reports : r.history.feedback place ≡ l.reports
 
 pub lived : (r : RunningWorld) (interface : ℕ) (l : Life) → life_of r interface ≡ Some l → IsLived r interface l
@@ -71,7 +71,7 @@ lived r interface l life =
     option_and_then_some _ (r.device.outs interface) l life (λ out outs after_out.
     option_and_then_some _ (r.host.paces interface) l after_out (λ pace paces after_pace.
     option_and_then_some _ (domain_on r interface) l after_pace (λ d domain after_domain.
-    (let placed = mapped _ (place_of r.device.function interface) l after_domain in
+    (let placed = mapped _ (stream_index r.device.function interface) l after_domain in
     record {
       out = outs ∙ ap (λ (m : Life). Some m.out) placed.2;
       place = placed.0;
@@ -79,7 +79,7 @@ lived r interface l life =
       reports = ap (λ (m : Life). m.reports) placed.2;
     }))))
 
-placed_below : (function : FunctionFields) (interface place : ℕ) (s : StreamInterface) → place_of function interface ≡ Some place
+placed_below : (function : FunctionFields) (interface place : ℕ) (s : StreamInterface) → stream_index function interface ≡ Some place
     → length function.streams ≤ 8 → place < 8
 placed_below function interface place s is few =
     let there = position-Some (λ s. s.number == interface) function.streams place s is in
@@ -94,7 +94,7 @@ life_few r interface l s life few steady =
 
 -- ---- one stream
 
-module _ (marks : List SaidMark) (r : RunningWorld) (k : ℕ) (l : Life) (d : Domain) (s : StreamInBand r k l d) where
+module _ (marks : List PhraseMark) (r : RunningWorld) (k : ℕ) (l : Life) (d : Domain) (s : StreamInBand r k l d) where
   abbrev packet : Option (List ℕ)
   packet = packet_to (loses_out marks k) k (streaming_of r)
 
@@ -144,7 +144,7 @@ interface_of r k l d runs = by (find (λ s. s.number == k) r.device.function.str
 
 -- ---- all
 
-pub few_following : (marks : List SaidMark) (r : RunningWorld) → RunInBand r → steadiness.is_steady (microframe marks r).world.history ≡ true
+pub few_following : (marks : List PhraseMark) (r : RunningWorld) → RunInBand r → steadiness.is_steady (microframe marks r).world.history ≡ true
     → (k : ℕ) (l : Life) (d : Domain) → Runs r k l d → latest_run (next_life marks r k l d).reports ≤ 3
 few_following marks r band steady k l d runs =
     let stays = microframes_keep_the_rest marks r in

@@ -24,10 +24,10 @@ use Rattle.uac_request.specs.declared.setup.Setup.{Setup}
 use Rattle.uac_request.proofs.Lasting.{rates_stay}
 use Rattle.uac_flow.specs.FlowStreams.{InStream, OutStream, started_out}
 use Rattle.uac_host.specs.HostWorld.{Pace}
-use Rattle.uac_host.specs.Calls.{at_interface, fresh_pace, with_stream}
-use Rattle.uac_lanes.specs.InterfaceStreams.{in_from, out_from, replaced_at}
+use Rattle.uac_host.specs.HostCalls.{at_interface, fresh_pace, with_stream}
+use Rattle.uac_device_streams.specs.InterfaceStreams.{in_from, out_from, replaced_at}
 use Rattle.uac_device.specs.DeviceWorld.{Domain, after_restart}
-use Rattle.uac_streaming.specs.StreamingWorld.{given_at, goes_out, place_of}
+use Rattle.uac_streaming.specs.StreamingWorld.{given_at, goes_out, stream_index}
 use Rattle.uac_running.specs.RunningWorld.{RunningWorld}
 use Rattle.uac_bands.specs.Life.{Life, domain_id_on, domain_on, life_of}
 use Rattle.uac_bands.specs.Bands.{started_life}
@@ -50,7 +50,7 @@ record HasLife (r : RunningWorld) (k : ℕ) (l : Life) (d : Domain) : Type 0 whe
   domain : domain_on r k ≡ Some d
   steps : d.steps ≡ l.steps
   place : ℕ
-  placed : place_of r.device.function k ≡ Some place
+  placed : stream_index r.device.function k ≡ Some place
   reports : r.history.feedback place ≡ l.reports
 
 has_life : (r : RunningWorld) (k : ℕ) (l : Life) (d : Domain) → Runs r k l d → HasLife r k l d
@@ -59,7 +59,7 @@ has_life r k l d runs =
     option_and_then_some _ (r.device.outs k) l runs.life (λ out outs after_out.
     option_and_then_some _ (r.host.paces k) l after_out (λ pace paces after_pace.
     option_and_then_some _ (domain_on r k) l after_pace (λ d' domain after_domain.
-    (let placed = mapped _ (place_of r.device.function k) l after_domain in
+    (let placed = mapped _ (stream_index r.device.function k) l after_domain in
     let one : d' ≡ d = let both : Some d' ≡ Some d = sym domain ∙ runs.domain in cc in
     record {
       out = outs ∙ ap (λ (m : Life). Some m.out) placed.2;
@@ -85,7 +85,7 @@ lives r k l d h =
     life out pace d place = record { out = out; pace = pace; steps = d.steps; reports = r.history.feedback place }
 
     in_turn : Option ℕ
-    in_turn = place_of r.device.function k
+    in_turn = stream_index r.device.function k
 
     at_domain : Option Domain
     at_domain = domain_on r k
@@ -187,7 +187,7 @@ module _ (r other : RunningWorld) (cs : List (Key × ℤ)) (ss : List InterfaceS
   IsThere k o = (l : Life) × (d : Domain) × (l.out ≡ o) × StreamInBand changed k l d
 
   stays_there : (k : ℕ) (l : Life) (d : Domain) → StreamInBand r k l d → outs k ≡ r.device.outs k → paces k ≡ r.host.paces k
-      → ((place : ℕ) → place_of r.device.function k ≡ Some place → given.feedback place ≡ r.history.feedback place)
+      → ((place : ℕ) → stream_index r.device.function k ≡ Some place → given.feedback place ≡ r.history.feedback place)
       → rate_of entities cs d.id ≡ rate_of entities r.device.controls d.id → StreamInBand changed k l d
   stays_there k l d s out pace reports rate =
       let h = has_life r k l d s.runs in
@@ -213,7 +213,7 @@ module _ (r other : RunningWorld) (cs : List (Key × ℤ)) (ss : List InterfaceS
 
   starts_there : (k number : ℕ) (s : StreamFields) → RunInBand r → IsSoundRun r → IsAsked r.device.function r.device.controls k number s
       → s.out ≡ true → outs k ≡ Some (started_out s) → paces k ≡ Some (fresh_pace s)
-      → ((place : ℕ) → place_of r.device.function k ≡ Some place → given.feedback place ≡ [] ∷ r.history.feedback place)
+      → ((place : ℕ) → stream_index r.device.function k ≡ Some place → given.feedback place ≡ [] ∷ r.history.feedback place)
       → ((id : ℕ) → rate_of entities cs id ≡ rate_of entities r.device.controls id) → IsThere k (started_out s)
   starts_there k number s band sound asked goes out pace reports rates =
       let function : FunctionFields = r.device.function in
@@ -282,25 +282,25 @@ module _ (p : Setup) (bytes : List ℕ) (r : RunningWorld) (band : RunInBand r) 
             (λ place placed. refl) (rates_last k o there stream.1.id),
       )))
 
-  pub reports_elsewhere : (k place : ℕ) → (k == p.index) ≡ false → place_of r.device.function k ≡ Some place
+  pub reports_elsewhere : (k place : ℕ) → (k == p.index) ≡ false → stream_index r.device.function k ≡ Some place
       → (given_then p bytes r).feedback place ≡ r.history.feedback place
   reports_elsewhere k place other placed = by (is_some (begun p bytes r))
     where
-      at : (o : Option ℕ) → place_of r.device.function p.index ≡ o
+      at : (o : Option ℕ) → stream_index r.device.function p.index ≡ o
           → (given_at o steadiness.with_restart_given r.history).feedback place ≡ r.history.feedback place
       at None there = refl
       at (Some j) there =
           if_false (place == j) _ (r.history.feedback place) (place_other k p.index place j r.device.function.streams other placed there)
 
       by : (b : Bool)
-          → (if b then given_at (place_of r.device.function p.index) steadiness.with_restart_given r.history else r.history).feedback place ≡ r.history.feedback place
-      by true = at (place_of r.device.function p.index) refl
+          → (if b then given_at (stream_index r.device.function p.index) steadiness.with_restart_given r.history else r.history).feedback place ≡ r.history.feedback place
+      by true = at (stream_index r.device.function p.index) refl
       by false = refl
 
-  reports_here : (s : StreamFields) (place : ℕ) → begun p bytes r ≡ Some s → place_of r.device.function p.index ≡ Some place
+  reports_here : (s : StreamFields) (place : ℕ) → begun p bytes r ≡ Some s → stream_index r.device.function p.index ≡ Some place
       → (given_then p bytes r).feedback place ≡ [] ∷ r.history.feedback place
   reports_here s place is placed =
-      ap (λ (o : Option StreamFields). (if is_some o then given_at (place_of r.device.function p.index) steadiness.with_restart_given r.history else r.history).feedback place) is
+      ap (λ (o : Option StreamFields). (if is_some o then given_at (stream_index r.device.function p.index) steadiness.with_restart_given r.history else r.history).feedback place) is
       ∙ ap (λ (o : Option ℕ). (given_at o steadiness.with_restart_given r.history).feedback place) placed
       ∙ if_true (place == place) _ (r.history.feedback place) (own_number place)
 

@@ -3,7 +3,7 @@ use Rattle.std.proofs.Common.{◌≡◌, ℕ, List, None}
 use Rattle.uac_flow.specs.FlowStreams.{after_packet, after_taking, after_ticks, settled_out}
 use Rattle.uac_device.specs.DeviceWorld.{after_advance, is_on, next_ticks, after_receiving, set_jack, after_settling, after_tick}
 use Rattle.uac_device.specs.DeviceWorld.{after_sending_packet as device_sends}
-use Rattle.uac_script.specs.Phrase.{SaidMark}
+use Rattle.uac_script.specs.Phrase.{PhraseMark}
 use Rattle.uac_streaming.specs.StreamingWorld.{StreamingWorld, in_packets, out_packets, packet_fetched, packet_sent, packet_to, report_made, settled_turn}
 use Rattle.uac_running.specs.RunningWorld.{RunningWorld, streaming_of, with_streaming}
 use Rattle.uac_running.specs.Events.{after_all_jacks, domain_microframe, microframe, packets_and_ticks, tick}
@@ -48,13 +48,13 @@ module _ (k : ℕ) where
   pub domain_none : (c : ℕ) (r : RunningWorld) → RestsNow r → RestsNow (domain_microframe c r).world
   domain_none = domain_keeps RunsNone starts_none
 
-  pub before_ticks_none : (marks : List SaidMark) (r : RunningWorld) → RestsNow r
+  pub before_ticks_none : (marks : List PhraseMark) (r : RunningWorld) → RestsNow r
       → (let sent = with_streaming r (out_packets r.detail marks (streaming_of r)).world in
       RestsNow (with_streaming sent (in_packets sent.detail marks (streaming_of sent)).world))
   before_ticks_none = before_ticks_keep RunsNone starts_none
 
-  pub before_the_end_none : (marks : List SaidMark) (r : RunningWorld) → RestsNow r → RestsNow (packets_and_ticks marks r).world
+  pub before_the_end_none : (marks : List PhraseMark) (r : RunningWorld) → RestsNow r → RestsNow (packets_and_ticks marks r).world
   before_the_end_none = before_the_end_keep RunsNone starts_none
 
-  pub microframe_none : (marks : List SaidMark) (r : RunningWorld) → RestsNow r → RestsNow (microframe marks r).world
+  pub microframe_none : (marks : List PhraseMark) (r : RunningWorld) → RestsNow r → RestsNow (microframe marks r).world
   microframe_none = microframe_keeps RunsNone starts_none

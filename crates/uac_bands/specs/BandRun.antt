@@ -7,7 +7,7 @@ use Rattle.uac_rate.specs.Levels.{Within}
 use Rattle.uac_rate.specs.Steadiness.{is_slight}
 use Rattle.uac_rate.specs.Steadiness as steadiness
 use Rattle.uac_store.specs.Rates.{rate_of}
-use Rattle.uac_script.specs.Phrase.{SaidMark}
+use Rattle.uac_script.specs.Phrase.{PhraseMark}
 use Rattle.uac_flow.specs.FlowStreams.{OutStream}
 use Rattle.uac_device.specs.DeviceWorld.{Domain}
 use Rattle.uac_transcript.specs.Transcript.{Said, says_level, says_under}
@@ -44,33 +44,33 @@ IsNearLevel said = (interface level target : ℕ) → said ≡ says_level interf
 -- a microframe of a run that is steady after it keeps the streams in their bands
 abbrev pub SteadyMicroframesKeepBands : Type 0
 SteadyMicroframesKeepBands =
-    (marks : List SaidMark) (r : RunningWorld) → RunInBand r → steadiness.is_steady (microframe marks r).world.history ≡ true
+    (marks : List PhraseMark) (r : RunningWorld) → RunInBand r → steadiness.is_steady (microframe marks r).world.history ≡ true
     → RunInBand (microframe marks r).world
 
 -- none finds a primed ring empty
 abbrev pub MicroframesFindNoneEmpty : Type 0
-MicroframesFindNoneEmpty = (marks : List SaidMark) (r : RunningWorld) → RunInBand r → All IsNoUnder (microframe marks r).lines
+MicroframesFindNoneEmpty = (marks : List PhraseMark) (r : RunningWorld) → RunInBand r → All IsNoUnder (microframe marks r).lines
 
 -- and one that is steady after it tells levels near their targets alone
 abbrev pub SteadyMicroframesTellNear : Type 0
 SteadyMicroframesTellNear =
-    (marks : List SaidMark) (r : RunningWorld) → RunInBand r → steadiness.is_steady (microframe marks r).world.history ≡ true
+    (marks : List PhraseMark) (r : RunningWorld) → RunInBand r → steadiness.is_steady (microframe marks r).world.history ≡ true
     → All IsNearLevel (microframe marks r).lines
 
 -- a run that is steady after a microframe was so before it
 abbrev pub SteadinessLooksBack : Type 0
 SteadinessLooksBack =
-    (marks : List SaidMark) (r : RunningWorld) → steadiness.is_steady (microframe marks r).world.history ≡ true
+    (marks : List PhraseMark) (r : RunningWorld) → steadiness.is_steady (microframe marks r).world.history ≡ true
     → steadiness.is_steady r.history ≡ true
 
 -- so many microframes of a run that is steady after them: the run is in its bands after them, and their lines tell of no ring that was
 -- found empty, and of levels near their targets
-pub record StaysSteady (marks : List SaidMark) (count : ℕ) (r : RunningWorld) : Type 0 where
+pub record StaysSteady (marks : List PhraseMark) (count : ℕ) (r : RunningWorld) : Type 0 where
   pub stays : RunInBand (microframes marks count r).world
   pub no_under : All IsNoUnder (microframes marks count r).lines
   pub near : All IsNearLevel (microframes marks count r).lines
 
 abbrev pub SteadyRunsStaySteady : Type 0
 SteadyRunsStaySteady =
-    (marks : List SaidMark) (count : ℕ) (r : RunningWorld) → RunInBand r
+    (marks : List PhraseMark) (count : ℕ) (r : RunningWorld) → RunInBand r
     → steadiness.is_steady (microframes marks count r).world.history ≡ true → StaysSteady marks count r

@@ -11,12 +11,12 @@ use Rattle.uac_alt.specs.AltSettings.{setting_of}
 use Rattle.uac_request.specs.Requests.{AreSettingsOf}
 use Rattle.uac_request.specs.declared.setup.Setup.{Setup}
 use Rattle.uac_flow.specs.FlowStreams.{OutStream}
-use Rattle.uac_host.specs.Calls.{channels_at}
-use Rattle.uac_script.specs.Phrase.{SaidMark}
+use Rattle.uac_host.specs.HostCalls.{channels_at}
+use Rattle.uac_script.specs.Phrase.{PhraseMark}
 use Rattle.uac_streaming.specs.StreamingWorld.{goes_out}
 use Rattle.uac_pcm.specs.declared.tones.Tone.{Tone}
 use Rattle.uac_running.specs.Events.{microframe}
-use Rattle.uac_running.specs.RunningWorld.{RunningWorld, at_start, with_detail, with_deviation, with_samples_on, with_tone, with_track}
+use Rattle.uac_running.specs.RunningWorld.{RunningWorld, at_start, with_detail, with_deviation, with_samples_on, with_jack_tone, with_track}
 use Rattle.uac_running.specs.RunningTransfers.{after_transfer, with_break}
 use Rattle.uac_bands.specs.Life.{domain_id_on}
 use Rattle.uac_bands.specs.BandRun.{RunInBand}
@@ -51,10 +51,10 @@ RunsStartSound =
 
 -- microframes keep it sound, and so does what is asked of it between them
 abbrev pub MicroframesKeepSound : Type 0
-MicroframesKeepSound = (marks : List SaidMark) (r : RunningWorld) → IsSoundRun r → IsSoundRun (microframe marks r).world
+MicroframesKeepSound = (marks : List PhraseMark) (r : RunningWorld) → IsSoundRun r → IsSoundRun (microframe marks r).world
 
 pub record StaysSound (r : RunningWorld) : Type 0 where
-  pub tone : (terminal : ℕ) (tone : Tone) → IsSoundRun (with_tone terminal tone r)
+  pub tone : (terminal : ℕ) (tone : Tone) → IsSoundRun (with_jack_tone terminal tone r)
   pub detail : (level : ℕ) → IsSoundRun (with_detail level r)
   pub breaks : (after : Bool) → IsSoundRun (with_break after r)
   pub samples : (interface : ℕ) (samples : List ℤ) → IsSoundRun (with_samples_on interface samples r)

@@ -6,7 +6,7 @@ use Rattle.uac_units.specs.Hearing.{Reading}
 use Rattle.uac_rate.specs.Steadiness.{is_slight}
 use Rattle.uac_topology.specs.Function.{FunctionFields}
 use Rattle.uac_topology.specs.Topology.{IsSoundFunction}
-use Rattle.uac_running.specs.RunningWorld.{RunningWorld, at_start, with_detail, with_deviation, with_samples_on, with_tone, with_track}
+use Rattle.uac_running.specs.RunningWorld.{RunningWorld, at_start, with_detail, with_deviation, with_samples_on, with_jack_tone, with_track}
 use Rattle.uac_running.specs.RunningTransfers.{with_break}
 use Rattle.uac_bands.specs.BandRun.{RunInBand}
 
@@ -18,7 +18,7 @@ RunsStartInBand =
 
 -- what is asked of it between microframes, but for control transfers, keeps it there; a deviation does where it is at most a thousandth
 pub record StaysInBands (r : RunningWorld) : Type 0 where
-  pub tone : (terminal : ℕ) (tone : Tone) → RunInBand (with_tone terminal tone r)
+  pub tone : (terminal : ℕ) (tone : Tone) → RunInBand (with_jack_tone terminal tone r)
   pub detail : (level : ℕ) → RunInBand (with_detail level r)
   pub breaks : (after : Bool) → RunInBand (with_break after r)
   pub samples : (interface : ℕ) (samples : List ℤ) → RunInBand (with_samples_on interface samples r)

@@ -8,9 +8,9 @@ use Rattle.uac_rate.specs.Steadiness.{one_more}
 use Rattle.uac_flow.specs.FlowStreams.{OutStream, after_packet, after_taking, after_ticks, feedback_of, is_due, settled_out}
 use Rattle.uac_host.specs.HostWorld.{Pace}
 use Rattle.uac_topology.specs.Function.{interface_in}
-use Rattle.uac_host.specs.Calls.{pace_after_report, pace_after_packet}
+use Rattle.uac_host.specs.HostCalls.{pace_after_report, pace_after_packet}
 use Rattle.uac_device.specs.DeviceWorld.{Domain, entity_in}
-use Rattle.uac_streaming.specs.StreamingWorld.{place_of}
+use Rattle.uac_streaming.specs.StreamingWorld.{stream_index}
 use Rattle.uac_running.specs.RunningWorld.{RunningWorld}
 
 -- a stream to the device, as the device and the host run it; the steps of its domain's clock since the start; and of each of its starts,
@@ -36,7 +36,7 @@ life_of r interface =
     option_and_then (λ pace.
     option_and_then (λ d.
     option_map (λ place. record { out = out; pace = pace; steps = d.steps; reports = r.history.feedback place })
-    (place_of r.device.function interface))
+    (stream_index r.device.function interface))
     (domain_on r interface))
     (r.host.paces interface))
     (r.device.outs interface)

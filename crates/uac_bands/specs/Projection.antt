@@ -7,9 +7,9 @@ use Rattle.uac_topology.specs.Topology.{IsSoundFunction}
 use Rattle.uac_request.specs.declared.setup.Setup.{Setup}
 use Rattle.uac_flow.specs.FlowStreams.{frames_of, is_due}
 use Rattle.uac_host.specs.HostWorld.{Track}
-use Rattle.uac_host.specs.Calls.{IsStreamOf, after_frames, channels_at, next_size, packet_of}
+use Rattle.uac_host.specs.HostCalls.{IsStreamOf, track_after_frames, channels_at, next_size, packet_of}
 use Rattle.uac_device.specs.DeviceWorld.{DeviceWorld, Domain, after_control, after_deviation, fresh, step_in}
-use Rattle.uac_script.specs.Phrase.{SaidMark}
+use Rattle.uac_script.specs.Phrase.{PhraseMark}
 use Rattle.uac_streaming.specs.StreamingWorld.{goes_out, loses_out, loses_report, packet_to}
 use Rattle.uac_running.specs.RunningWorld.{RunningWorld, streaming_of}
 use Rattle.uac_running.specs.Events.{microframe}
@@ -38,7 +38,7 @@ pub record IsFed (r : RunningWorld) (interface : ℕ) (l : Life) : Type 0 where
   pub whole : All (λ frame. length frame ≡ channels_at r.host.function interface) (r.host.tracks interface).waiting
 
 -- the stream's life after a microframe
-abbrev pub next_life : List SaidMark → RunningWorld → ℕ → Life → Domain → Life
+abbrev pub next_life : List PhraseMark → RunningWorld → ℕ → Life → Domain → Life
 next_life marks r interface l d =
     life_after (packet_to (loses_out marks interface) interface (streaming_of r)) (step_in r.device d) (loses_report marks interface) l
 
@@ -48,18 +48,18 @@ next_domain r d = record d { steps = d.steps ++ step_in r.device d ∷ [] }
 
 -- the track after a microframe: its next frames went out where a packet was due
 abbrev pub next_track : Life → Track → Track
-next_track l t = if is_due l.out.stream l.out.microframes then after_frames (next_size l.pace) t else t
+next_track l t = if is_due l.out.stream l.out.microframes then track_after_frames (next_size l.pace) t else t
 
 -- all that a microframe makes of a stream to the device follows from that stream's own packet, from the step of its own clock, and from
 -- whether its packet and its report were lost
 abbrev pub MicroframesAreLived : Type 0
 MicroframesAreLived =
-    (marks : List SaidMark) (r : RunningWorld) (interface : ℕ) (l : Life) (d : Domain) → IsOrdered r.device → Runs r interface l d
+    (marks : List PhraseMark) (r : RunningWorld) (interface : ℕ) (l : Life) (d : Domain) → IsOrdered r.device → Runs r interface l d
     → Runs (microframe marks r).world interface (next_life marks r interface l d) (next_domain r d)
 
 abbrev pub TracksGoOn : Type 0
 TracksGoOn =
-    (marks : List SaidMark) (r : RunningWorld) (interface : ℕ) (l : Life) (d : Domain) → IsOrdered r.device → Runs r interface l d
+    (marks : List PhraseMark) (r : RunningWorld) (interface : ℕ) (l : Life) (d : Domain) → IsOrdered r.device → Runs r interface l d
     → (microframe marks r).world.host.tracks interface ≡ next_track l (r.host.tracks interface)
 
 -- what stays so
@@ -70,10 +70,10 @@ pub record Stays (before after : RunningWorld) : Type 0 where
   pub host : after.host.function ≡ before.host.function
 
 abbrev pub MicroframesKeepTheRest : Type 0
-MicroframesKeepTheRest = (marks : List SaidMark) (r : RunningWorld) → Stays r (microframe marks r).world
+MicroframesKeepTheRest = (marks : List PhraseMark) (r : RunningWorld) → Stays r (microframe marks r).world
 
 abbrev pub MicroframesKeepOrder : Type 0
-MicroframesKeepOrder = (marks : List SaidMark) (r : RunningWorld) → IsOrdered r.device → IsOrdered (microframe marks r).world.device
+MicroframesKeepOrder = (marks : List PhraseMark) (r : RunningWorld) → IsOrdered r.device → IsOrdered (microframe marks r).world.device
 
 -- so it is at the start, and deviations, control requests and transfers leave it so
 abbrev pub StartsAreOrdered : Type 0
@@ -92,7 +92,7 @@ TransfersKeepOrder = (p : Setup) (bytes : List ℕ) (r : RunningWorld) → IsOrd
 -- a stream that is fed is so after a microframe
 abbrev pub MicroframesKeepFed : Type 0
 MicroframesKeepFed =
-    (marks : List SaidMark) (r : RunningWorld) (interface : ℕ) (l : Life) (d : Domain) → IsOrdered r.device → Runs r interface l d
+    (marks : List PhraseMark) (r : RunningWorld) (interface : ℕ) (l : Life) (d : Domain) → IsOrdered r.device → Runs r interface l d
     → IsFed r interface l → IsFed (microframe marks r).world interface (next_life marks r interface l d)
 
 -- a stream's packet has as many frames as its rate values say

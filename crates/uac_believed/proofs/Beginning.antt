@@ -12,7 +12,7 @@ use Rattle.uac_store.specs.StoreControls.{IsStoreOf}
 use Rattle.uac_store.specs.Keyed.{value_of}
 use Rattle.uac_store.proofs.Soundness.{keyed}
 use Rattle.uac_mixer.specs.Agreement.{IsAgreed}
-use Rattle.uac_mixer.specs.MixerElements.{element_list, unread}
+use Rattle.uac_mixer.specs.MixerElements.{element_list, with_no_value}
 use Rattle.uac_mixer.specs.ViewWorld.{IsViewOf, known_view, read_from}
 use Rattle.uac_mixer.specs.declared.element.Element.{Element}
 use Rattle.uac_mixer.proofs.Agreed.{held_as}
@@ -30,7 +30,7 @@ use Rattle.uac_believed.proofs.Worlds.{Begins, IsBegun, IsBelieved}
 
 -- each element that is listed is read
 unread_again : (values : List (Key × ℤ)) (xs : List Element) → AllByRecursion (λ (x : Element). x.value ≡ None) xs
-    → map unread (map (read_from values) xs) ≡ xs
+    → map with_no_value (map (read_from values) xs) ≡ xs
 unread_again values [] none = refl
 unread_again values (x ∷ xs) none = (λ j. record x { value = sym none.0 j } ∷ unread_again values xs none.1 j)
 

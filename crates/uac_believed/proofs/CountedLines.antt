@@ -14,11 +14,11 @@ use Rattle.uac_topology.proofs.Small.{small}
 use Rattle.uac_store.proofs.Soundness.{keyed}
 use Rattle.uac_alt.specs.AltStreams.{StreamFields}
 use Rattle.uac_units.specs.Hearing.{Reading}
-use Rattle.uac_request.specs.Requests.{after_request, request_state, reply_of, setup_of, sets_interface}
+use Rattle.uac_request.specs.Requests.{after_request, request_state, reply_of, setup_of, sets_interface, is_done_answer}
 use Rattle.uac_request.specs.declared.setup.Setup.{Setup}
 use Rattle.uac_host.specs.HostWorld.{HostWorld}
-use Rattle.uac_device.specs.DeviceWorld.{DeviceWorld, Domain, at_rest, after_control, after_deviation, fresh, is_input_jack, after_restart, stream_in_setting, tells_done}
-use Rattle.uac_device.specs.DeviceKept.{IsInRange}
+use Rattle.uac_device.specs.DeviceWorld.{DeviceWorld, Domain, resting_domain, after_control, after_deviation, fresh, is_input_jack, after_restart, stream_in_setting}
+use Rattle.uac_device.specs.DeviceKept.{IsDeviationInRange}
 use Rattle.uac_mixer.specs.MixerElements.{fits_element}
 use Rattle.uac_mixer.specs.declared.link.When.{When}
 use Rattle.uac_mixer.specs.declared.link.When.TheVariants as when
@@ -30,8 +30,8 @@ use Rattle.uac_script.proofs.Kept.{within_means}
 use Rattle.uac_transcript.specs.declared.report.StreamCounts.{StreamCounts}
 use Rattle.uac_streaming.specs.StreamingWorld.{StreamingWorld, after_following}
 use Rattle.uac_running.specs.declared.jacks.Jack.{Jack}
-use Rattle.uac_running.specs.RunningWorld.{RunningWorld, at_start, silent_jack, streaming_of, jack_with_tone, with_detail, with_deviation, with_samples_on, with_tone, with_track}
-use Rattle.uac_running.specs.RunningNames.{are_frames, size_of}
+use Rattle.uac_running.specs.RunningWorld.{RunningWorld, at_start, silent_jack, streaming_of, jack_with_tone, with_detail, with_deviation, with_samples_on, with_jack_tone, with_track}
+use Rattle.uac_running.specs.RunningNames.{are_frames, natural_of_int}
 use Rattle.uac_running.specs.Events.{microframes}
 use Rattle.uac_running.specs.RunningLines.{ticks_since}
 use Rattle.uac_running.specs.RunningTransfers.{acts, element_named, holds_setting, read_element, set_element, show_element, transfer, after_transfer, with_break}
@@ -61,7 +61,7 @@ few_entities function is =
     let few : length ids ≤ 256 = length-le_from_distinct_below ids 256 (keyed function is.sound).apart (below_all 256 ids is.ids) in
     subst (λ (n : ℕ). n ≤ 256) (length-map function.entities (λ e. e.id)) few
 
-resting_timed : (most clock : ℕ) → IsTimed most (at_rest clock)
+resting_timed : (most clock : ℕ) → IsTimed most (resting_domain clock)
 resting_timed most clock = record { ticks = omega arith; range = search rules }
 
 none_met : (most : ℕ) → HasMet most (record { under = 0; over = 0; lost = 0; missed = 0 })
@@ -74,7 +74,7 @@ start_counted most bytes function meters is = record {
   streams = record {
     domains = (small function is.sound).0;
     entities = few_entities function is;
-    clocks = All-map (IsTimed most) at_rest function.domains (λ k d below. resting_timed most _);
+    clocks = All-map (IsTimed most) resting_domain function.domains (λ k d below. resting_timed most _);
     met = λ k. none_met most;
   };
   time = omega arith;
@@ -91,7 +91,7 @@ start_counted most bytes function meters is = record {
 asked_counted : (p : Setup) (bytes : List ℕ) (most : ℕ) (w : StreamingWorld) → HaveCounted most w
     → HaveCounted most (record w { device = after_control p bytes w.device })
 unfolding after_control after_restart
-asked_counted p bytes most w is = by (sets_interface p && tells_done (reply_of d.function (request_state d.controls d.settings) p bytes))
+asked_counted p bytes most w is = by (sets_interface p && is_done_answer (reply_of d.function (request_state d.controls d.settings) p bytes))
   where
     d : DeviceWorld
     d = w.device
@@ -134,8 +134,8 @@ transfers_counted p bytes most r is =
 
 -- ---- tones and clocks
 
-toned_counted : (terminal : ℕ) (tone : Tone) (most : ℕ) (r : RunningWorld) → HasCounted most r → HasCounted most (with_tone terminal tone r)
-unfolding with_tone
+toned_counted : (terminal : ℕ) (tone : Tone) (most : ℕ) (r : RunningWorld) → HasCounted most r → HasCounted most (with_jack_tone terminal tone r)
+unfolding with_jack_tone
 toned_counted terminal tone most r is = record {
   streams = is.streams;
   time = is.time;
@@ -148,7 +148,7 @@ toned_counted terminal tone most r is = record {
     by j true given = omega arith
     by j false given = given
 
-off_timed : (clock : ℕ) (ppm : ℤ) (most : ℕ) → IsInRange ppm → (d : Domain) → IsTimed most d
+off_timed : (clock : ℕ) (ppm : ℤ) (most : ℕ) → IsDeviationInRange ppm → (d : Domain) → IsTimed most d
     → IsTimed most (if d.id == clock then record d { deviation = ppm } else d)
 off_timed clock ppm most range d is = by (d.id == clock)
   where
@@ -156,7 +156,7 @@ off_timed clock ppm most range d is = by (d.id == clock)
     by true = record { ticks = is.ticks; range = range }
     by false = is
 
-deviated_counted : (clock : ℕ) (ppm : ℤ) (most : ℕ) (r : RunningWorld) → IsInRange ppm → HasCounted most r
+deviated_counted : (clock : ℕ) (ppm : ℤ) (most : ℕ) (r : RunningWorld) → IsDeviationInRange ppm → HasCounted most r
     → HasCounted most (with_deviation clock ppm r)
 unfolding with_deviation after_deviation
 deviated_counted clock ppm most r range is = record {
@@ -194,7 +194,7 @@ abbrev Adds : ℕ → Step → Type 0
 Adds most (done next lines) = CountsIn (most + 524288000) next
 Adds most (refused fault) = Unit {0}
 
-microframes_few : (count : ℤ) → is_within (pos 1) (pos 8000) count ≡ true → size_of count ≤ 8000
+microframes_few : (count : ℤ) → is_within (pos 1) (pos 8000) count ≡ true → natural_of_int count ≤ 8000
 microframes_few (pos n) h = leb-true n 8000 (and_parts (int_le (pos 1) (pos n)) (int_le (pos n) (pos 8000)) h).1
 microframes_few (negsuc n) h = omega arith
 
@@ -221,20 +221,20 @@ module _ (most : ℕ) (r : RunningWorld) (is : HasCounted most r) where
   running_adds (break_line later) range = record { streams = more.streams; time = more.time; renders = more.renders; frames = more.frames }
   running_adds (append_line number samples) range =
       unless_is (Adds most) refused_adds _ 6
-      (unless (are_frames r.device.function (size_of number) (length samples)) 7
-      (silently (running (with_samples_on (size_of number) samples r))))
-      (unless_is (Adds most) refused_adds _ 7 (silently (running (with_samples_on (size_of number) samples r))) (hosted _ r _ more))
-  running_adds (track_line number voice) range =
-      unless_is (Adds most) refused_adds _ 6 (silently (running (with_track (size_of number) (tone_of voice) r))) (hosted _ r _ more)
-  running_adds (jack_line terminal voice) range =
-      unless_is (Adds most) refused_adds _ 6 (silently (running (with_tone (size_of terminal) (tone_of voice) r)))
-      (toned_counted (size_of terminal) (tone_of voice) _ r more)
+      (unless (are_frames r.device.function (natural_of_int number) (length samples)) 7
+      (silently (running (with_samples_on (natural_of_int number) samples r))))
+      (unless_is (Adds most) refused_adds _ 7 (silently (running (with_samples_on (natural_of_int number) samples r))) (hosted _ r _ more))
+  running_adds (track_line number tone) range =
+      unless_is (Adds most) refused_adds _ 6 (silently (running (with_track (natural_of_int number) (tone_of tone) r))) (hosted _ r _ more)
+  running_adds (jack_line terminal tone) range =
+      unless_is (Adds most) refused_adds _ 6 (silently (running (with_jack_tone (natural_of_int terminal) (tone_of tone) r)))
+      (toned_counted (natural_of_int terminal) (tone_of tone) _ r more)
   running_adds (deviate_line clock ppm) range =
-      unless_is (Adds most) refused_adds _ 6 (silently (running (with_deviation (size_of clock) ppm r)))
-      (deviated_counted (size_of clock) ppm _ r (within_means (negsuc 99999) (pos 100000) ppm (and_parts (is_id clock) _ range).1) more)
+      unless_is (Adds most) refused_adds _ 6 (silently (running (with_deviation (natural_of_int clock) ppm r)))
+      (deviated_counted (natural_of_int clock) ppm _ r (within_means (negsuc 99999) (pos 100000) ppm (and_parts (is_id clock) _ range).1) more)
   running_adds (microframes_line count marks) range =
-      unless_is (Adds most) refused_adds _ 6 (step_telling (microframes marks (size_of count) r))
-      (microframes_add marks (size_of count) most (most + 524288000) r
+      unless_is (Adds most) refused_adds _ 6 (step_telling (microframes marks (natural_of_int count) r))
+      (microframes_add marks (natural_of_int count) most (most + 524288000) r
       (omega (arith, microframes_few count (and_parts (is_within (pos 1) (pos 8000) count) _ range).0)) is)
   running_adds (detail_line level) range = record { streams = more.streams; time = more.time; renders = more.renders; frames = more.frames }
   running_adds report_line range = more

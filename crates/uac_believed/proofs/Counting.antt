@@ -14,11 +14,11 @@ use Rattle.uac_units.specs.Hearing.{at_most_u64}
 use Rattle.uac_flow.specs.declared.arrival.Arrival.{Arrival}
 use Rattle.uac_flow.specs.declared.arrival.Arrival.TheVariants as arrivals
 use Rattle.uac_device.specs.DeviceWorld.{DeviceWorld, Domain, after_advance, arrival_in, feedback_in, next_ticks, after_receiving, renders_of, after_sending_packet, set_jack, after_settling, step_in, steps_with_next, after_tick}
-use Rattle.uac_device.specs.DeviceKept.{IsInRange}
-use Rattle.uac_script.specs.Phrase.{SaidMark}
+use Rattle.uac_device.specs.DeviceKept.{IsDeviationInRange}
+use Rattle.uac_script.specs.Phrase.{PhraseMark}
 use Rattle.uac_transcript.specs.declared.report.StreamCounts.{StreamCounts}
-use Rattle.uac_streaming.specs.Telling.{Telling, at_rest, in_turn}
-use Rattle.uac_streaming.specs.StreamingWorld.{StreamingWorld, after_arrival, all_reported, all_settled, counted_at, fetched_lines, finds_empty, finds_full, found_counts, in_packet_turn, in_packets, is_in_due, is_out_due, loses_in, loses_out, loses_report, numbers, one_lost, one_missed, one_over, one_under, out_packets, out_turn, packet_fetched, packet_sent, packet_to, report_lines, report_made, report_turn, sent_lines, settled_turn}
+use Rattle.uac_streaming.specs.Telling.{Telling, without_event, in_turn}
+use Rattle.uac_streaming.specs.StreamingWorld.{StreamingWorld, after_arrival, all_reported, all_settled, counted_at, fetched_lines, finds_empty, finds_full, found_counts, in_packet_turn, in_packets, is_in_due, is_out_due, loses_in, loses_out, loses_report, numbers, one_lost, one_missed, one_over, one_under, out_packets, out_turn, packet_fetched, packet_sent, packet_to, feedback_lines, report_made, report_turn, sent_lines, settled_turn}
 use Rattle.uac_streaming.proofs.RoomLemmas.{next_few}
 use Rattle.uac_running.specs.declared.jacks.Jack.{Jack}
 use Rattle.uac_running.specs.RunningWorld.{RunningWorld, streaming_of, with_streaming}
@@ -30,7 +30,7 @@ use Rattle.uac_running.specs.Events.{after_one, after_all_jacks, domain_microfra
 -- a domain that ticked so often at most, whose clock is off by at most a tenth
 pub record IsTimed (most : ℕ) (d : Domain) : Type 0 where
   pub ticks : sum d.steps / 65536 ≤ most
-  pub range : IsInRange d.deviation
+  pub range : IsDeviationInRange d.deviation
 
 -- what streams met, each so often at most
 pub record HasMet (most : ℕ) (c : StreamCounts) : Type 0 where
@@ -231,14 +231,14 @@ all_turns_add : (event : ℕ → StreamingWorld → Telling StreamingWorld) → 
 all_turns_add event adds most w is =
     turns_add event adds (numbers w.device.function) most (most + 256) w (omega (arith, numbers_few w.device.function)) is
 
-module _ (detail : ℕ) (marks : List SaidMark) where
+module _ (detail : ℕ) (marks : List PhraseMark) where
   out_adds : AddsOne (out_turn detail marks)
   unfolding out_turn
   out_adds n most w is = by (is_out_due w n)
     where
       by : (b : Bool)
           → HaveCounted (most + 1) (if b then record { lines = sent_lines detail (loses_out marks n) n w; world = packet_sent (loses_out marks n) n w }
-          else at_rest w).world
+          else without_event w).world
       by true = sent_adds (loses_out marks n) n most w is
       by false = streams_within most (most + 1) (omega arith) w is
 
@@ -248,7 +248,7 @@ module _ (detail : ℕ) (marks : List SaidMark) where
     where
       by : (b : Bool)
           → HaveCounted (most + 1) (if b then record { lines = fetched_lines detail (loses_in marks n) n w; world = packet_fetched (loses_in marks n) n w }
-          else at_rest w).world
+          else without_event w).world
       by true = fetched_adds (loses_in marks n) n most w is
       by false = streams_within most (most + 1) (omega arith) w is
 
@@ -261,8 +261,8 @@ module _ (detail : ℕ) (marks : List SaidMark) where
   report_adds n most w is = by (feedback_in w.device n)
     where
       by : (o : Option ℕ)
-          → HaveCounted (most + 1) (option_map_or (λ value. record { lines = report_lines detail (loses_report marks n) value n; world = report_made (loses_report marks n) value n w })
-          o (at_rest w)).world
+          → HaveCounted (most + 1) (option_map_or (λ value. record { lines = feedback_lines detail (loses_report marks n) value n; world = report_made (loses_report marks n) value n w })
+          o (without_event w)).world
       by None = streams_within most (most + 1) (omega arith) w is
       by (Some value) = reported_adds (loses_report marks n) value n most w is
 
@@ -337,11 +337,11 @@ ticks_add (suc count) clock most limit r few is =
 -- ---- clocks
 
 -- one microframe of a clock in range
-next_few_of : (w : DeviceWorld) (d : Domain) → IsInRange d.deviation → ticks_in (steps_with_next w d) ≤ 27
+next_few_of : (w : DeviceWorld) (d : Domain) → IsDeviationInRange d.deviation → ticks_in (steps_with_next w d) ≤ 27
 unfolding next_ticks step_in
 next_few_of w d range =
     by (d.id == d.id) (own_number d.id)
-    (next_few (record w { domains = d ∷ [] }) d.id (All-cons (λ (e : Domain). IsInRange e.deviation) d [] range (All-nil (λ (e : Domain). IsInRange e.deviation))))
+    (next_few (record w { domains = d ∷ [] }) d.id (All-cons (λ (e : Domain). IsDeviationInRange e.deviation) d [] range (All-nil (λ (e : Domain). IsDeviationInRange e.deviation))))
   where
     by : (b : Bool) → b ≡ true
         → option_map_or (λ e. ticks_in (steps_with_next w e)) (cond b (Some d) (find (λ (e : Domain). e.id == d.id) [])) 0 ≤ 27
@@ -384,7 +384,7 @@ advanced_adds clock most r is = record {
 domain_adds : (clock most : ℕ) (r : RunningWorld) → HasCounted most r → HasCounted (most + 6939) (domain_microframe clock r).world
 unfolding domain_microframe
 domain_adds clock most r is =
-    let ranges = All-weaker (IsTimed most) (λ (d : Domain). IsInRange d.deviation) (λ d timed. timed.range) r.device.domains is.streams.clocks in
+    let ranges = All-weaker (IsTimed most) (λ (d : Domain). IsDeviationInRange d.deviation) (λ d timed. timed.range) r.device.domains is.streams.clocks in
     ticks_add (next_ticks clock r.device) clock (most + 27) (most + 6939) (record r { device = after_advance clock r.device })
     (omega (arith, next_few r.device clock ranges)) (advanced_adds clock most r is)
 
@@ -406,7 +406,7 @@ streamed most limit more r w is counted = record {
   frames = all_given_within most limit more r.jacks is.frames;
 }
 
-before_the_end_adds : (marks : List SaidMark) (most : ℕ) (r : RunningWorld) → HasCounted most r
+before_the_end_adds : (marks : List PhraseMark) (most : ℕ) (r : RunningWorld) → HasCounted most r
     → HasCounted (most + 56024) (packets_and_ticks marks r).world
 unfolding packets_and_ticks
 before_the_end_adds marks most r is =
@@ -421,7 +421,7 @@ before_the_end_adds marks most r is =
     (all_in_add r.detail marks (most + 256) (streaming_of sends) after_out.streams)) in
     domains_add fetches.device.function.domains (most + 512) (most + 56024) fetches (omega (arith, after_in.streams.domains)) after_in
 
-the_end_adds : (marks : List SaidMark) (most : ℕ) (r : RunningWorld) → HasCounted most r
+the_end_adds : (marks : List PhraseMark) (most : ℕ) (r : RunningWorld) → HasCounted most r
     → HasCounted (most + 512) (ends_and_reports marks r).world
 unfolding ends_and_reports
 the_end_adds marks most r is =
@@ -433,7 +433,7 @@ the_end_adds marks most r is =
     (streams_within (most + 256 + 256) (most + 512) (omega arith) (all_reported r.detail marks (streaming_of ends)).world
     (all_reported_add r.detail marks (most + 256) (streaming_of ends) after_ends.streams))
 
-pub microframe_adds : (marks : List SaidMark) (most : ℕ) (r : RunningWorld) → HasCounted most r
+pub microframe_adds : (marks : List PhraseMark) (most : ℕ) (r : RunningWorld) → HasCounted most r
     → HasCounted (most + 65536) (microframe marks r).world
 unfolding microframe
 microframe_adds marks most r is =
@@ -448,7 +448,7 @@ microframe_adds marks most r is =
     within (most + 1 + 56024 + 512) (most + 65536) (omega arith) (ends_and_reports marks ticking).world
     (the_end_adds marks (most + 1 + 56024) ticking (before_the_end_adds marks (most + 1) numbered begun))
 
-pub microframes_add : (marks : List SaidMark) (count most limit : ℕ) (r : RunningWorld) → most + count * 65536 ≤ limit → HasCounted most r
+pub microframes_add : (marks : List PhraseMark) (count most limit : ℕ) (r : RunningWorld) → most + count * 65536 ≤ limit → HasCounted most r
     → HasCounted limit (microframes marks count r).world
 unfolding microframes
 microframes_add marks zero most limit r few is = within most limit (omega arith) r is

@@ -3,20 +3,20 @@ use Rattle.std.proofs.Common.{◌≡◌, ◌∙◌, refl, sym, ap, subst, ℕ, B
 use Rattle.std.specs.List.{AllByRecursion, AllZip, cons_option}
 use Rattle.std.proofs.lemmas.List.Elements.{All-from_recursion}
 use Rattle.uac_descriptor.specs.BlockReading.{AreBytes}
-use Rattle.uac_mixer.specs.MixerElements.{fits_element, unread}
+use Rattle.uac_mixer.specs.MixerElements.{fits_element, with_no_value}
 use Rattle.uac_mixer.specs.ViewTransfers.{is_for}
 use Rattle.uac_mixer.specs.declared.element.Element.{Element}
 use Rattle.uac_script.specs.Phrase.{Phrase, nothing_line, bytes_line, go_line, control_line, get_line, set_line, show_line, break_line, append_line, track_line, jack_line, deviate_line, microframes_line, detail_line, report_line}
 use Rattle.uac_script.specs.LineReading.{answer}
 use Rattle.uac_request.specs.Requests.{setup_of}
-use Rattle.uac_running.specs.RunningWorld.{RunningWorld, with_detail, with_deviation, with_samples_on, with_tone, with_track}
-use Rattle.uac_running.specs.RunningNames.{are_frames, size_of}
+use Rattle.uac_running.specs.RunningWorld.{RunningWorld, with_detail, with_deviation, with_samples_on, with_jack_tone, with_track}
+use Rattle.uac_running.specs.RunningNames.{are_frames, natural_of_int}
 use Rattle.uac_running.specs.Events.{microframes}
 use Rattle.uac_running.specs.RunningTransfers.{element_named, read_element, set_element, show_element, transfer, with_break}
 use Rattle.uac_bus.specs.declared.fault.BusFault.{BusFault}
 use Rattle.uac_bus.specs.BusWorld.{Step, BusWorld, describing, done, on_element, refused, running, silently, start, step, step_running, step_telling, tone_of, unless}
 use Rattle.uac_bus.specs.After.{after, and_then, said_step}
-use Rattle.uac_believed.specs.Unknown.{ElementsStay, Transfer, ValuesAreKnownAsTold, elements_in, get_by, if_done, last_or, set_by, tells, tells_in, told_of, transfer_of}
+use Rattle.uac_believed.specs.Unknown.{ElementsStay, Transfer, ValuesAreKnownAsTold, elements_in, get_by, if_done, last_or, set_by, tells, tells_in, knowledge_after, transfer_of}
 use Rattle.uac_steady.proofs.Beginning.{feeds_bytes}
 use Rattle.uac_steady.proofs.Steps.{on_element_is, unless_is}
 use Rattle.uac_units.specs.Hearing.{Reading}
@@ -51,7 +51,7 @@ tells_on r None made of each = tt
 tells_on r (Some x) made of each = each x
 
 running_tells : (r : RunningWorld) (phrase : Phrase) → Tells (tells_in (running r) (Ok phrase)) r.view.elements (step_running r phrase)
-unfolding transfer read_element set_element show_element with_break with_samples_on with_track with_tone with_detail with_deviation
+unfolding transfer read_element set_element show_element with_break with_samples_on with_track with_jack_tone with_detail with_deviation
 running_tells r nothing_line = none_told r.view.elements
 running_tells r (bytes_line more) = tt
 running_tells r go_line = tt
@@ -68,22 +68,22 @@ running_tells r (show_line name) =
 running_tells r (break_line later) = none_told r.view.elements
 running_tells r (append_line number samples) =
     tells_unless (λ x. None) r.view.elements _ 6
-    (unless (are_frames r.device.function (size_of number) (length samples)) 7
-    (silently (running (with_samples_on (size_of number) samples r))))
-    (tells_unless (λ x. None) r.view.elements _ 7 (silently (running (with_samples_on (size_of number) samples r)))
+    (unless (are_frames r.device.function (natural_of_int number) (length samples)) 7
+    (silently (running (with_samples_on (natural_of_int number) samples r))))
+    (tells_unless (λ x. None) r.view.elements _ 7 (silently (running (with_samples_on (natural_of_int number) samples r)))
     (none_told r.view.elements))
-running_tells r (track_line number voice) =
-    tells_unless (λ x. None) r.view.elements _ 6 (silently (running (with_track (size_of number) (tone_of voice) r)))
+running_tells r (track_line number tone) =
+    tells_unless (λ x. None) r.view.elements _ 6 (silently (running (with_track (natural_of_int number) (tone_of tone) r)))
     (none_told r.view.elements)
-running_tells r (jack_line terminal voice) =
-    tells_unless (λ x. None) r.view.elements _ 6 (silently (running (with_tone (size_of terminal) (tone_of voice) r)))
+running_tells r (jack_line terminal tone) =
+    tells_unless (λ x. None) r.view.elements _ 6 (silently (running (with_jack_tone (natural_of_int terminal) (tone_of tone) r)))
     (none_told r.view.elements)
 running_tells r (deviate_line clock ppm) =
-    tells_unless (λ x. None) r.view.elements _ 6 (silently (running (with_deviation (size_of clock) ppm r)))
+    tells_unless (λ x. None) r.view.elements _ 6 (silently (running (with_deviation (natural_of_int clock) ppm r)))
     (none_told r.view.elements)
 running_tells r (microframes_line count marks) =
-    tells_unless (λ x. None) r.view.elements _ 6 (step_telling (microframes marks (size_of count) r))
-    (subst (λ v. AllZip (λ x y. IsToldOf None x y) r.view.elements v.elements) (sym (microframes_view marks (size_of count) r))
+    tells_unless (λ x. None) r.view.elements _ 6 (step_telling (microframes marks (natural_of_int count) r))
+    (subst (λ v. AllZip (λ x y. IsToldOf None x y) r.view.elements v.elements) (sym (microframes_view marks (natural_of_int count) r))
     (none_told r.view.elements))
 running_tells r (detail_line level) = none_told r.view.elements
 running_tells r report_line = none_told r.view.elements
@@ -95,36 +95,36 @@ said_tells r (Err rule) = tt
 
 -- ---- what is told of an element is told of its key and kind
 
-tells_over : (r : RunningWorld) (x : Element) (o : Option Transfer) → option_and_then (tells r (unread x)) o ≡ option_and_then (tells r x) o
+tells_over : (r : RunningWorld) (x : Element) (o : Option Transfer) → option_and_then (tells r (with_no_value x)) o ≡ option_and_then (tells r x) o
 unfolding tells is_for
 tells_over r x None = refl
 tells_over r x (Some t) = refl
 
-tells_unread : (w : BusWorld) (said : Result Phrase ℕ) (x : Element) → tells_in w said (unread x) ≡ tells_in w said x
+tells_unread : (w : BusWorld) (said : Result Phrase ℕ) (x : Element) → tells_in w said (with_no_value x) ≡ tells_in w said x
 tells_unread (describing bytes meters) said x = refl
 tells_unread (running r) (Ok phrase) x = tells_over r x (transfer_of phrase r)
 tells_unread (running r) (Err rule) x = refl
 
-told_unread : (saids : List (Result Phrase ℕ)) (w : BusWorld) (x : Element) → told_of saids w (unread x) ≡ told_of saids w x
-unfolding told_of
+told_unread : (saids : List (Result Phrase ℕ)) (w : BusWorld) (x : Element) → knowledge_after saids w (with_no_value x) ≡ knowledge_after saids w x
+unfolding knowledge_after
 told_unread [] w x = refl
 told_unread (said ∷ saids) w x = by (said_step said w) (told_unread saids)
   where
-    by : (s : Step) → ((next : BusWorld) (y : Element) → told_of saids next (unread y) ≡ told_of saids next y)
-        → if_done s (λ next. cons_option (tells_in w said (unread x)) (told_of saids next (unread x)))
-        ≡ if_done s (λ next. cons_option (tells_in w said x) (told_of saids next x))
+    by : (s : Step) → ((next : BusWorld) (y : Element) → knowledge_after saids next (with_no_value y) ≡ knowledge_after saids next y)
+        → if_done s (λ next. cons_option (tells_in w said (with_no_value x)) (knowledge_after saids next (with_no_value x)))
+        ≡ if_done s (λ next. cons_option (tells_in w said x) (knowledge_after saids next x))
     by (done next lines) rest = (λ j. cons_option (tells_unread w said x j) (rest next x j))
     by (refused fault) rest = refl
 
-told_same : (saids : List (Result Phrase ℕ)) (w : BusWorld) (x y : Element) → unread y ≡ unread x → told_of saids w y ≡ told_of saids w x
-told_same saids w x y same = sym (told_unread saids w y) ∙ ap (told_of saids w) same ∙ told_unread saids w x
+told_same : (saids : List (Result Phrase ℕ)) (w : BusWorld) (x y : Element) → with_no_value y ≡ with_no_value x → knowledge_after saids w y ≡ knowledge_after saids w x
+told_same saids w x y same = sym (told_unread saids w y) ∙ ap (knowledge_after saids w) same ∙ told_unread saids w x
 
 -- ---- lines in a row
 
 -- what becomes of an element after lines
 record IsLeft (saids : List (Result Phrase ℕ)) (r : RunningWorld) (x y : Element) : Type 0 where
-  pub same : unread y ≡ unread x
-  pub known : is_some y.value ≡ last_or (is_some x.value) (told_of saids (running r) x)
+  pub same : with_no_value y ≡ with_no_value x
+  pub known : is_some y.value ≡ last_or (is_some x.value) (knowledge_after saids (running r) x)
 
 -- the elements after lines are those before them, each left as was told of it
 abbrev AreLeft : List (Result Phrase ℕ) → RunningWorld → BusWorld → Type 0
@@ -150,13 +150,13 @@ last_cons None known rest = refl
 last_cons (Some step_telling) known rest = refl
 
 left_following : (saids : List (Result Phrase ℕ)) (r : RunningWorld) → AreLeft saids r (after saids (running r)).world
-unfolding after told_of last_or
+unfolding after knowledge_after last_or
 left_following [] r = zip_itself (IsLeft [] r) r.view.elements (λ x. record { same = refl; known = refl })
 left_following (said ∷ saids) r = by (said_step said (running r)) refl (said_tells r said) (left_following saids)
   where
     -- the last that this line, which makes this step, and those after it tell of an element
     last_in : Element → Step → Bool
-    last_in x s = last_or (is_some x.value) (if_done s (λ w. cons_option (tells_in (running r) said x) (told_of saids w x)))
+    last_in x s = last_or (is_some x.value) (if_done s (λ w. cons_option (tells_in (running r) said x) (knowledge_after saids w x)))
 
     by : (s : Step) → said_step said (running r) ≡ s → Tells (tells_in (running r) said) r.view.elements s
         → ((next : RunningWorld) → AreLeft saids next (after saids (running next)).world)
@@ -175,9 +175,9 @@ left_following (said ∷ saids) r = by (said_step said (running r)) refl (said_t
           same = left.same ∙ one.same;
           known =
               left.known
-              ∙ ap (λ (known : Bool). last_or known (told_of saids (running next) y)) one.known
+              ∙ ap (λ (known : Bool). last_or known (knowledge_after saids (running next) y)) one.known
               ∙ ap (last_or (unwrap_or (tells_in (running r) said x) (is_some x.value))) (told_same saids (running next) x y one.same)
-              ∙ sym (last_cons (tells_in (running r) said x) (is_some x.value) (told_of saids (running next) x))
+              ∙ sym (last_cons (tells_in (running r) said x) (is_some x.value) (knowledge_after saids (running next) x))
               ∙ sym (ap (last_in x) is);
         }
 
@@ -199,24 +199,24 @@ zip_maps f R each (x ∷ xs) (y ∷ ys) all = (λ j. each x y all.0 j ∷ zip_ma
 pub elements_stay : ElementsStay
 elements_stay saids r = by (after saids (running r)).world (left_following saids r)
   where
-    by : (last : BusWorld) → AreLeft saids r last → map unread (elements_in last) ≡ map unread r.view.elements
+    by : (last : BusWorld) → AreLeft saids r last → map with_no_value (elements_in last) ≡ map with_no_value r.view.elements
     by (describing bytes meters) left = absurd left
-    by (running last) left = zip_maps unread (IsLeft saids r) (λ x y is. is.same) r.view.elements last.view.elements left
+    by (running last) left = zip_maps with_no_value (IsLeft saids r) (λ x y is. is.same) r.view.elements last.view.elements left
 
 -- ---- from the start on
 
 -- each element is known or unknown as was told of it last, and known where nothing was
 abbrev AreKnown : List (Result Phrase ℕ) → BusWorld → BusWorld → Type 0
-AreKnown saids w last = AllByRecursion (λ (x : Element). is_some x.value ≡ last_or true (told_of saids w x)) (elements_in last)
+AreKnown saids w last = AllByRecursion (λ (x : Element). is_some x.value ≡ last_or true (knowledge_after saids w x)) (elements_in last)
 
 zip_known : (saids : List (Result Phrase ℕ)) (r : RunningWorld) (xs ys : List Element)
     → AllByRecursion (λ (x : Element). is_some x.value ≡ true) xs
-    → AllZip (IsLeft saids r) xs ys → AllByRecursion (λ (y : Element). is_some y.value ≡ last_or true (told_of saids (running r) y)) ys
+    → AllZip (IsLeft saids r) xs ys → AllByRecursion (λ (y : Element). is_some y.value ≡ last_or true (knowledge_after saids (running r) y)) ys
 zip_known saids r [] [] known left = tt
 zip_known saids r [] (y ∷ ys) known left = absurd left
 zip_known saids r (x ∷ xs) [] known left = absurd left
 zip_known saids r (x ∷ xs) (y ∷ ys) known left = (
-  left.0.known ∙ ap (λ (b : Bool). last_or b (told_of saids (running r) x)) known.0
+  left.0.known ∙ ap (λ (b : Bool). last_or b (knowledge_after saids (running r) x)) known.0
       ∙ ap (last_or true) (sym (told_same saids (running r) x y left.0.same)),
   zip_known saids r xs ys known.1 left.1,
 )
@@ -241,7 +241,7 @@ said_begins text bytes meters are = by (answer text) refl
 
 known_following : (texts : List (List ℕ)) (bytes : List ℕ) (meters : List Reading) → AreBytes bytes
     → AreKnown (map answer texts) (describing bytes meters) (after (map answer texts) (describing bytes meters)).world
-unfolding after told_of
+unfolding after knowledge_after
 known_following [] bytes meters are = tt
 known_following (text ∷ texts) bytes meters are =
     by (said_step (answer text) (describing bytes meters)) (said_begins text bytes meters are) (known_following texts)
@@ -252,7 +252,7 @@ known_following (text ∷ texts) bytes meters are =
     by : (s : Step) → Begins s
         → ((next : List ℕ) (shown : List Reading) → AreBytes next
         → AreKnown saids (describing next shown) (after saids (describing next shown)).world)
-        → AllByRecursion (λ (x : Element). is_some x.value ≡ last_or true (if_done s (λ next. told_of saids next x)))
+        → AllByRecursion (λ (x : Element). is_some x.value ≡ last_or true (if_done s (λ next. knowledge_after saids next x)))
         (elements_in (and_then s (describing bytes meters) (after saids)).world)
     by (done (describing next shown) lines) begins rest = rest next shown begins
     by (done (running r) lines) begins rest = begun_known saids r begins.known
@@ -260,7 +260,7 @@ known_following (text ∷ texts) bytes meters are =
 
 pub values_are_known_as_told : ValuesAreKnownAsTold
 values_are_known_as_told texts shown =
-    All-from_recursion (λ (x : Element). is_some x.value ≡ last_or true (told_of (map answer texts) (start shown) x))
+    All-from_recursion (λ (x : Element). is_some x.value ≡ last_or true (knowledge_after (map answer texts) (start shown) x))
     (elements_in (after (map answer texts) (start shown)).world) (known_following texts [] shown no_bytes)
   where
     no_bytes : AreBytes []

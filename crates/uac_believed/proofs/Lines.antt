@@ -6,8 +6,8 @@ use Rattle.uac_device.specs.DeviceWorld.{after_deviation}
 use Rattle.uac_mixer.specs.MixerElements.{fits_element}
 use Rattle.uac_script.specs.Phrase.{Phrase, nothing_line, bytes_line, go_line, control_line, get_line, set_line, show_line, break_line, append_line, track_line, jack_line, deviate_line, microframes_line, detail_line, report_line}
 use Rattle.uac_script.specs.LineReading.{answer}
-use Rattle.uac_running.specs.RunningWorld.{RunningWorld, with_detail, with_deviation, with_samples_on, with_tone, with_track}
-use Rattle.uac_running.specs.RunningNames.{are_frames, size_of}
+use Rattle.uac_running.specs.RunningWorld.{RunningWorld, with_detail, with_deviation, with_samples_on, with_jack_tone, with_track}
+use Rattle.uac_running.specs.RunningNames.{are_frames, natural_of_int}
 use Rattle.uac_running.specs.Events.{microframes}
 use Rattle.uac_running.specs.RunningTransfers.{element_named, read_element, set_element, show_element, transfer, with_break}
 use Rattle.uac_bus.specs.declared.fault.BusFault.{BusFault}
@@ -27,7 +27,7 @@ refused_keeps : (fault : BusFault) → Keeps (refused fault)
 refused_keeps fault = tt
 
 running_keeps : (r : RunningWorld) → IsBelieved r → (phrase : Phrase) → Keeps (step_running r phrase)
-unfolding transfer read_element set_element show_element with_break with_samples_on with_track with_tone with_detail with_deviation after_deviation
+unfolding transfer read_element set_element show_element with_break with_samples_on with_track with_jack_tone with_detail with_deviation after_deviation
 running_keeps r agree nothing_line = agree
 running_keeps r agree (bytes_line more) = tt
 running_keeps r agree go_line = tt
@@ -41,17 +41,17 @@ running_keeps r agree (show_line name) = on_element_is Keeps refused_keeps (elem
 running_keeps r agree (break_line later) = agree
 running_keeps r agree (append_line number samples) =
     unless_is Keeps refused_keeps _ 6
-    (unless (are_frames r.device.function (size_of number) (length samples)) 7
-    (silently (running (with_samples_on (size_of number) samples r))))
-    (unless_is Keeps refused_keeps _ 7 (silently (running (with_samples_on (size_of number) samples r))) agree)
-running_keeps r agree (track_line number voice) =
-    unless_is Keeps refused_keeps _ 6 (silently (running (with_track (size_of number) (tone_of voice) r))) agree
-running_keeps r agree (jack_line terminal voice) =
-    unless_is Keeps refused_keeps _ 6 (silently (running (with_tone (size_of terminal) (tone_of voice) r))) agree
+    (unless (are_frames r.device.function (natural_of_int number) (length samples)) 7
+    (silently (running (with_samples_on (natural_of_int number) samples r))))
+    (unless_is Keeps refused_keeps _ 7 (silently (running (with_samples_on (natural_of_int number) samples r))) agree)
+running_keeps r agree (track_line number tone) =
+    unless_is Keeps refused_keeps _ 6 (silently (running (with_track (natural_of_int number) (tone_of tone) r))) agree
+running_keeps r agree (jack_line terminal tone) =
+    unless_is Keeps refused_keeps _ 6 (silently (running (with_jack_tone (natural_of_int terminal) (tone_of tone) r))) agree
 running_keeps r agree (deviate_line clock ppm) =
-    unless_is Keeps refused_keeps _ 6 (silently (running (with_deviation (size_of clock) ppm r))) agree
+    unless_is Keeps refused_keeps _ 6 (silently (running (with_deviation (natural_of_int clock) ppm r))) agree
 running_keeps r agree (microframes_line count marks) =
-    unless_is Keeps refused_keeps _ 6 (step_telling (microframes marks (size_of count) r)) (microframes_believed marks (size_of count) r agree)
+    unless_is Keeps refused_keeps _ 6 (step_telling (microframes marks (natural_of_int count) r)) (microframes_believed marks (natural_of_int count) r agree)
 running_keeps r agree (detail_line level) = agree
 running_keeps r agree report_line = agree
 

@@ -2,7 +2,7 @@
 use Rattle.std.proofs.Common.{◌≡◌, ◌∙◌, refl, ℕ, zero, suc, ◌+◌, List, [], ◌∷◌}
 use Rattle.uac_units.specs.Hearing.{at_most_u64}
 use Rattle.uac_device.specs.DeviceWorld.{after_advance, next_ticks}
-use Rattle.uac_script.specs.Phrase.{SaidMark}
+use Rattle.uac_script.specs.Phrase.{PhraseMark}
 use Rattle.uac_streaming.specs.StreamingWorld.{in_packets, out_packets}
 use Rattle.uac_running.specs.RunningWorld.{RunningWorld, streaming_of, with_streaming}
 use Rattle.uac_running.specs.Events.{domain_microframe, domain_microframes, ends_and_reports, microframe, microframes, packets_and_ticks, tick, tick_times}
@@ -27,7 +27,7 @@ unfolding domain_microframes
 domains_view [] v = refl
 domains_view (c ∷ cs) v = domains_view cs (domain_microframe c v).world ∙ domain_view c v
 
-microframe_view : (marks : List SaidMark) (r : RunningWorld) → (microframe marks r).world.view ≡ r.view
+microframe_view : (marks : List PhraseMark) (r : RunningWorld) → (microframe marks r).world.view ≡ r.view
 unfolding microframe packets_and_ticks ends_and_reports
 microframe_view marks r =
     let v : RunningWorld = record r { time = at_most_u64 (r.time + 1) } in
@@ -35,12 +35,12 @@ microframe_view marks r =
     let fetched = with_streaming sent (in_packets v.detail marks (streaming_of sent)).world in
     domains_view fetched.device.function.domains fetched
 
-pub microframes_view : (marks : List SaidMark) (count : ℕ) (r : RunningWorld) → (microframes marks count r).world.view ≡ r.view
+pub microframes_view : (marks : List PhraseMark) (count : ℕ) (r : RunningWorld) → (microframes marks count r).world.view ≡ r.view
 unfolding microframes
 microframes_view marks zero r = refl
 microframes_view marks (suc count) r = microframes_view marks count (microframe marks r).world ∙ microframe_view marks r
 
-pub microframes_believed : (marks : List SaidMark) (count : ℕ) (r : RunningWorld) → IsBelieved r
+pub microframes_believed : (marks : List PhraseMark) (count : ℕ) (r : RunningWorld) → IsBelieved r
     → IsBelieved (microframes marks count r).world
 unfolding microframes
 microframes_believed marks zero r agree = agree

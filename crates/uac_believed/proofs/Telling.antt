@@ -3,17 +3,17 @@ use Rattle.std.proofs.Common.{◌≡◌, refl, ℕ, ◌==◌, ◌&&◌, ◌||◌
 use Rattle.std.specs.List.{AllZip}
 use Rattle.uac_request.specs.Requests.{AnswerFields, is_done, is_stalled, with_bytes, with_descriptor}
 use Rattle.uac_request.specs.declared.setup.Setup.{Setup}
-use Rattle.uac_mixer.specs.MixerElements.{unread, width_of}
+use Rattle.uac_mixer.specs.MixerElements.{with_no_value, width_of}
 use Rattle.uac_mixer.specs.ViewTransfers.{after_get, after_set, element_after, gets, is_for, sets, value_after, value_in, view_after}
 use Rattle.uac_mixer.specs.declared.element.Element.{Element}
 use Rattle.uac_mixer.proofs.Agreed.{is_request}
 use Rattle.uac_running.specs.RunningWorld.{RunningWorld}
 use Rattle.uac_running.specs.RunningTransfers.{after_transfer}
-use Rattle.uac_believed.specs.Unknown.{Transfer, brings, came_back, is_broken, says_done, tells}
+use Rattle.uac_believed.specs.Unknown.{Transfer, brings, came_back, is_broken, came_done, tells}
 
 -- what becomes of an element: it stays the same but for its value, which is known as was told, or as it was where nothing was told
 pub record IsToldOf (told : Option Bool) (x y : Element) : Type 0 where
-  pub same : unread y ≡ unread x
+  pub same : with_no_value y ≡ with_no_value x
   pub known : is_some y.value ≡ unwrap_or told (is_some x.value)
 
 -- ---- lists of elements
@@ -39,7 +39,7 @@ value_by s g sent came x = if s then after_set x sent came else if g then after_
 
 abbrev told_by : Bool → Bool → Option AnswerFields → Element → Option Bool
 told_by s g came x =
-    if s && is_broken came then Some false else if (s && says_done came) || (g && brings (width_of x.kind) came) then Some true else None
+    if s && is_broken came then Some false else if (s && came_done came) || (g && brings (width_of x.kind) came) then Some true else None
 
 abbrev IsAsTold : Bool → Bool → List ℕ → Option AnswerFields → Element → Type 0
 IsAsTold s g sent came x = is_some (value_by s g sent came x) ≡ unwrap_or (told_by s g came x) (is_some x.value)

@@ -2,9 +2,9 @@
 use Rattle.std.proofs.Common.{ℕ, ◌&&◌, Bool, true, false, if◌then◌else◌, List, Option, None, Some, is_some}
 use Rattle.uac_alt.specs.AltStreams.{StreamFields}
 use Rattle.uac_store.proofs.Soundness.{keyed}
-use Rattle.uac_request.specs.Requests.{RequestState, AnswerFields, after_request, request_state, reply_of, sets_interface}
+use Rattle.uac_request.specs.Requests.{RequestState, AnswerFields, after_request, request_state, reply_of, sets_interface, is_done_answer}
 use Rattle.uac_request.specs.declared.setup.Setup.{Setup}
-use Rattle.uac_device.specs.DeviceWorld.{DeviceWorld, after_control, after_restart, stream_in_setting, tells_done}
+use Rattle.uac_device.specs.DeviceWorld.{DeviceWorld, after_control, after_restart, stream_in_setting}
 use Rattle.uac_mixer.specs.Agreement.{IsAgreed, StaysAgreed}
 use Rattle.uac_mixer.specs.ViewTransfers.{view_after}
 use Rattle.uac_mixer.specs.ViewWorld.{ViewWorld}
@@ -66,7 +66,7 @@ module _ (p : Setup) (bytes : List ℕ) (r : RunningWorld) (agree : IsBelieved r
       → Of (after_control p bytes r.device) (seen came)
   unfolding after_control
   acted came agreed =
-      restarts (sets_interface p && tells_done (reply_of r.device.function holds p bytes)) p.index
+      restarts (sets_interface p && is_done_answer (reply_of r.device.function holds p bytes)) p.index
       (stream_in_setting r.device.function r.device.controls p.index p.value) asked (seen came) (record {
         sound = agree.sound;
         store = stays r.device.function holds p bytes agree.store;

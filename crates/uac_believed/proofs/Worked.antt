@@ -10,7 +10,7 @@ use Rattle.uac_script.specs.Phrase.{Phrase, break_line, control_line}
 use Rattle.uac_running.specs.RunningWorld.{RunningWorld, at_start}
 use Rattle.uac_bus.specs.BusWorld.{running}
 use Rattle.uac_entities.specs.EntityInterfaces.{entity_by_id}
-use Rattle.uac_store.specs.StoreControls.{channels_at, controls_of, count_of, first_channels, has_on, initial_controls, start_of, takes, takes_on}
+use Rattle.uac_store.specs.StoreControls.{channel_controls, controls_of, count_of, first_channels, has_on, initial_controls, start_of, takes, takes_on}
 use Rattle.uac_store.specs.Keyed.{value_of, with_value}
 use Rattle.uac_store.specs.StoreValues.{is_legal, ranges_of}
 use Rattle.uac_request.specs.Requests.{unbroken_reply, breaks_q1, breaks_q2, breaks_q3, breaks_q4, breaks_q5, breaks_q6, breaks_q7, breaks_q8, breaks_q9, breaks_q10, breaks_q11, breaks_q12, after_request, cur_bytes, first_broken, left_by, owner_of, reply_of, value_bytes, value_from}
@@ -19,7 +19,7 @@ use Rattle.uac_mixer.specs.ViewTransfers.{is_for, value_after, view_after}
 use Rattle.uac_running.specs.RunningTransfers.{comes_back, transfer, after_transfer, with_break}
 use Rattle.uac_bus.specs.BusWorld.{step}
 use Rattle.uac_bus.specs.After.{after}
-use Rattle.uac_believed.specs.Unknown.{elements_in, tells, told_of}
+use Rattle.uac_believed.specs.Unknown.{elements_in, tells, knowledge_after}
 
 abbrev with : ℕ → EntityKind → List ℕ → List ℕ → Entity
 with id k sources words =
@@ -76,13 +76,13 @@ values_following lines = map (λ x. x.value) (elements_in (after lines (running 
 
 -- the broken set tells that the value is unknown, the get of one byte nothing, that of both bytes that it is known; so does a set that is
 -- done; and a break that is spent on a get tells nothing. Of the mute nothing was told.
-told : (told_of broken (running world) volume ≡ false ∷ [])
-    × (told_of (broken ++ get_one ∷ []) (running world) volume ≡ false ∷ [])
-    × (told_of (broken ++ get_one ∷ get_both ∷ []) (running world) volume ≡ false ∷ true ∷ [])
-    × (told_of (broken ++ set_it ∷ []) (running world) volume ≡ false ∷ true ∷ [])
-    × (told_of (break ∷ get_both ∷ []) (running world) volume ≡ [])
-    × (told_of (broken ++ get_one ∷ get_both ∷ []) (running world) mute ≡ [])
-unfolding told_of after broken break set_it get_one get_both values_following world device volume mute at_start step transfer after_transfer tells is_for comes_back with_break reply_of first_broken breaks_q1 breaks_q2 breaks_q3 breaks_q4 breaks_q5 breaks_q6 breaks_q7 breaks_q8 breaks_q9 breaks_q10 breaks_q11 breaks_q12 owner_of entity_by_id count_of fresh after_control unbroken_reply cur_bytes value_bytes value_of initial_controls controls_of channels_at first_channels start_of has_on ranges_of is_legal value_from view_after value_after after_request with_value left_by takes takes_on
+told : (knowledge_after broken (running world) volume ≡ false ∷ [])
+    × (knowledge_after (broken ++ get_one ∷ []) (running world) volume ≡ false ∷ [])
+    × (knowledge_after (broken ++ get_one ∷ get_both ∷ []) (running world) volume ≡ false ∷ true ∷ [])
+    × (knowledge_after (broken ++ set_it ∷ []) (running world) volume ≡ false ∷ true ∷ [])
+    × (knowledge_after (break ∷ get_both ∷ []) (running world) volume ≡ [])
+    × (knowledge_after (broken ++ get_one ∷ get_both ∷ []) (running world) mute ≡ [])
+unfolding knowledge_after after broken break set_it get_one get_both values_following world device volume mute at_start step transfer after_transfer tells is_for comes_back with_break reply_of first_broken breaks_q1 breaks_q2 breaks_q3 breaks_q4 breaks_q5 breaks_q6 breaks_q7 breaks_q8 breaks_q9 breaks_q10 breaks_q11 breaks_q12 owner_of entity_by_id count_of fresh after_control unbroken_reply cur_bytes value_bytes value_of initial_controls controls_of channel_controls first_channels start_of has_on ranges_of is_legal value_from view_after value_after after_request with_value left_by takes takes_on
 told = (refl, refl, refl, refl, refl, refl)
 
 -- and the view's values, the volume's first
@@ -91,5 +91,5 @@ values : (values_following broken ≡ None ∷ Some (pos 0) ∷ [])
     × (values_following (broken ++ get_one ∷ get_both ∷ []) ≡ Some (negsuc 2559) ∷ Some (pos 0) ∷ [])
     × (values_following (broken ++ set_it ∷ []) ≡ Some (negsuc 2559) ∷ Some (pos 0) ∷ [])
     × (values_following (break ∷ get_both ∷ []) ≡ Some (pos 0) ∷ Some (pos 0) ∷ [])
-unfolding told_of after broken break set_it get_one get_both values_following world device volume mute at_start step transfer after_transfer tells is_for comes_back with_break reply_of first_broken breaks_q1 breaks_q2 breaks_q3 breaks_q4 breaks_q5 breaks_q6 breaks_q7 breaks_q8 breaks_q9 breaks_q10 breaks_q11 breaks_q12 owner_of entity_by_id count_of fresh after_control unbroken_reply cur_bytes value_bytes value_of initial_controls controls_of channels_at first_channels start_of has_on ranges_of is_legal value_from view_after value_after after_request with_value left_by takes takes_on
+unfolding knowledge_after after broken break set_it get_one get_both values_following world device volume mute at_start step transfer after_transfer tells is_for comes_back with_break reply_of first_broken breaks_q1 breaks_q2 breaks_q3 breaks_q4 breaks_q5 breaks_q6 breaks_q7 breaks_q8 breaks_q9 breaks_q10 breaks_q11 breaks_q12 owner_of entity_by_id count_of fresh after_control unbroken_reply cur_bytes value_bytes value_of initial_controls controls_of channel_controls first_channels start_of has_on ranges_of is_legal value_from view_after value_after after_request with_value left_by takes takes_on
 values = (refl, refl, refl, refl, refl)

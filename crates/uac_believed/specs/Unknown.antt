@@ -4,9 +4,10 @@ use Rattle.std.specs.Prelude.{◌≡◌, ◌↔◌, ℕ, ◌==◌, ◌&&◌, ◌
 use Rattle.std.specs.Prelude.{None, Some, is_some, option_map, option_and_then, Result, Ok, Err}
 use Rattle.std.specs.List.{All, cons_option}
 use Rattle.uac_units.specs.Hearing.{Reading}
-use Rattle.uac_request.specs.Requests.{AnswerFields, setup_of, value_bytes, is_done, is_stalled, with_bytes, with_descriptor}
+use Rattle.uac_request.specs.Requests.{AnswerFields, setup_of, value_bytes, is_done, is_done_answer, is_stalled, with_bytes}
+use Rattle.uac_request.specs.Requests.{with_descriptor}
 use Rattle.uac_request.specs.declared.setup.Setup.{Setup}
-use Rattle.uac_mixer.specs.MixerElements.{unread, width_of}
+use Rattle.uac_mixer.specs.MixerElements.{with_no_value, width_of}
 use Rattle.uac_mixer.specs.ViewTransfers as mixer
 use Rattle.uac_mixer.specs.ViewTransfers.{get_of, set_of}
 use Rattle.uac_mixer.specs.declared.element.Element.{Element}
@@ -58,13 +59,10 @@ abbrev pub is_broken : Option AnswerFields → Bool
 is_broken None = true
 is_broken (Some told) = false
 
--- whether a transfer was told to be done
-abbrev pub says_done : Option AnswerFields → Bool
-says_done None = false
-says_done (Some (with_bytes bytes)) = false
-says_done (Some (with_descriptor from to)) = false
-says_done (Some is_done) = true
-says_done (Some (is_stalled rule)) = false
+-- what came back is that the request is done
+abbrev pub came_done : Option AnswerFields → Bool
+came_done None = false
+came_done (Some told) = is_done_answer told
 
 -- so many bytes came
 abbrev pub brings : ℕ → Option AnswerFields → Bool
@@ -89,7 +87,7 @@ came_back r t = comes_back t.setup t.sent r
 unfoldable pub tells : RunningWorld → Element → Transfer → Option Bool
 tells r x t =
     if is_set r x t && is_broken (came_back r t) then Some false
-    else if (is_set r x t && says_done (came_back r t)) || (is_get r x t && brings (width_of x.kind) (came_back r t)) then Some true
+    else if (is_set r x t && came_done (came_back r t)) || (is_get r x t && brings (width_of x.kind) (came_back r t)) then Some true
     else None
 
 -- ---- what lines tell
@@ -106,9 +104,9 @@ if_done (done next lines) go = go next
 if_done (refused fault) go = []
 
 -- what lines told of an element, in order, up to the first line that is refused
-unfoldable pub told_of : List (Result Phrase ℕ) → BusWorld → Element → List Bool
-told_of [] w x = []
-told_of (said ∷ saids) w x = if_done (said_step said w) (λ next. cons_option (tells_in w said x) (told_of saids next x))
+unfoldable pub knowledge_after : List (Result Phrase ℕ) → BusWorld → Element → List Bool
+knowledge_after [] w x = []
+knowledge_after (said ∷ saids) w x = if_done (said_step said w) (λ next. cons_option (tells_in w said x) (knowledge_after saids next x))
 
 -- the last of these, or this where there is none
 unfoldable pub last_or : Bool → List Bool → Bool
@@ -126,7 +124,7 @@ elements_in (running r) = r.view.elements
 -- was told
 abbrev pub ValuesAreKnownAsTold : Type 0
 ValuesAreKnownAsTold = (texts : List (List ℕ)) (shown : List Reading)
-    → All (λ x. is_some x.value ≡ last_or true (told_of (map answer texts) (start shown) x))
+    → All (λ x. is_some x.value ≡ last_or true (knowledge_after (map answer texts) (start shown) x))
     (elements_in (after (map answer texts) (start shown)).world)
 
 -- an element lost its value: at one of these lines, which was done, a set of it broke; and no line after that one told of it that a set
@@ -138,7 +136,7 @@ pub record IsLost (saids : List (Result Phrase ℕ)) (w : BusWorld) (x : Element
   pub cut : saids ≡ before ++ said ∷ following
   pub whole : (after (before ++ said ∷ []) w).refusal ≡ None
   pub broke : tells_in (after before w).world said x ≡ Some false
-  pub since : told_of following (after (before ++ said ∷ []) w).world x ≡ []
+  pub since : knowledge_after following (after (before ++ said ∷ []) w).world x ≡ []
 
 -- after every list of lines exactly those values are unknown that were lost
 abbrev pub UnknownValuesAreLost : Type 0
@@ -149,4 +147,4 @@ UnknownValuesAreLost = (texts : List (List ℕ)) (shown : List Reading)
 -- the elements of a running device, but for their values, are the same ones in the same order after every list of lines
 abbrev pub ElementsStay : Type 0
 ElementsStay = (saids : List (Result Phrase ℕ)) (r : RunningWorld)
-    → map unread (elements_in (after saids (running r)).world) ≡ map unread r.view.elements
+    → map with_no_value (elements_in (after saids (running r)).world) ≡ map with_no_value r.view.elements

@@ -11,7 +11,7 @@ use Rattle.uac_grammar.proofs.Readings.{no_stop_no_fault}
 use Rattle.uac_grammar.proofs.StopLemmas.{stop_at-Fault}
 use Rattle.uac_topology_rules.specs.declared.fault.TopologyFault.{TopologyFault}
 use Rattle.uac_topology.specs.Function.{FunctionFields}
-use Rattle.uac_topology.specs.Topology.{first_broken}
+use Rattle.uac_topology.specs.Topology.{first_fault_of}
 use Rattle.uac_configuration.specs.declared.describing.SoundDescriptor.{SoundDescriptor}
 use Rattle.uac_configuration.specs.declared.fault.DescriptorFault.{DescriptorFault}
 use Rattle.uac_configuration.specs.declared.fault.DescriptorFault.TheVariants as broken
@@ -28,8 +28,8 @@ use Rattle.uac_bus.specs.declared.fault.BusFault.{BusFault}
 use Rattle.uac_bus.specs.declared.fault.BusFault.TheVariants as faults
 use Rattle.uac_bus.specs.declared.bus.BusStage.TheVariants as stages
 use Rattle.uac_bus.specs.BusWorld.{Step, done, describing, running, if_no_fault, if_sound, silently, step_feed, step_go}
-use Rattle.uac_bus.specs.BusKept.{StageStands, Reaches, IsCut, Prevents}
-use Rattle.uac_bus.specs.BusRows.{Begins, bus_fault_of}
+use Rattle.uac_bus.specs.BusKept.{BusStageStands, Reaches, IsWriteCut, Prevents}
+use Rattle.uac_bus.specs.BusRows.{BeginsRunning, bus_fault_of}
 
 -- the end of such a descriptor
 pub gone_well : (bytes : List ℕ) (d : SoundDescriptor) (shown : List Reading) → Describes bytes (Ok d)
@@ -38,7 +38,7 @@ unfolding step_go
 gone_well bytes sound shown d =
     let began : FunctionFields → Step = λ f. done (running (at_start bytes f shown)) (ready_line f ∷ []) in
     let whole : Step = began (function_of (blocks_of bytes)) in
-    ap (λ (o : Option GrammarFault). if_no_fault o (if_sound (first_broken (blocks_of bytes)) whole)) d.0
+    ap (λ (o : Option GrammarFault). if_no_fault o (if_sound (first_fault_of (blocks_of bytes)) whole)) d.0
     ∙ ap (λ (o : Option TopologyFault). if_sound o whole) d.1
     ∙ ap began (sym d.2)
 
@@ -47,11 +47,11 @@ not_gone : (bytes : List ℕ) (fault : DescriptorFault) (shown : List Reading) (
 unfolding step_go
 not_gone bytes (broken.Grammar f) shown written d =
     let function = function_of (blocks_of bytes) in
-    ap (λ (o : Option GrammarFault). if_no_fault o (if_sound (first_broken (blocks_of bytes)) (done (running (at_start bytes function shown)) (ready_line function ∷ [])))) d
+    ap (λ (o : Option GrammarFault). if_no_fault o (if_sound (first_fault_of (blocks_of bytes)) (done (running (at_start bytes function shown)) (ready_line function ∷ [])))) d
 not_gone bytes (broken.Topology f) shown written d =
     let function = function_of (blocks_of bytes) in
     let whole : Step = done (running (at_start bytes function shown)) (ready_line function ∷ []) in
-    ap (λ (o : Option GrammarFault). if_no_fault o (if_sound (first_broken (blocks_of bytes)) whole)) d.0
+    ap (λ (o : Option GrammarFault). if_no_fault o (if_sound (first_fault_of (blocks_of bytes)) whole)) d.0
     ∙ ap (λ (o : Option TopologyFault). if_sound o whole) d.1
 not_gone bytes broken.NoMemory shown written d = refl
 
@@ -64,26 +64,26 @@ gone_ill bytes fault told shown written d is =
 pub begun : (bytes : List ℕ) (d : SoundDescriptor) (p : RunningFields) (shown : List Reading) (written written' : Option (List ℕ)) (result : Result RunningFields BusFault)
     → Describes bytes (Ok d) → p.device.function ≡ d.function → RunningStandsBetween p shown (at_start bytes d.function shown)
     → IfOk result (λ announce. announce ≡ p) → IfErr result (λ fault. fault ≡ faults.WriteFault)
-    → Writes written written' result (spelling_of (ready_line p.device.function)) → Begins (step_go bytes shown) shown written written' result
+    → Writes written written' result (spelling_of (ready_line p.device.function)) → BeginsRunning (step_go bytes shown) shown written written' result
 begun bytes d p shown written written' (Ok announce) described same stands is other writes =
-    subst (λ (s : Step). Reaches s (StageStands (stages.Running announce) shown) written written') (sym (gone_well bytes d shown described)) (
+    subst (λ (s : Step). Reaches s (BusStageStands (stages.Running announce) shown) written written') (sym (gone_well bytes d shown described)) (
       subst (λ (x : RunningFields). RunningStandsBetween x shown (at_start bytes d.function shown)) (sym is) stands,
       Appends-line written written' (ready_line d.function) (subst (λ (f : FunctionFields). Appends written written' (spelling_of (ready_line f))) same writes),
     )
 begun bytes d p shown written written' (Err fault) described same stands is other writes =
     subst (λ (f : BusFault). Prevents f true (step_go bytes shown) written written') (sym other)
-    (subst (λ (s : Step). IsCut s written written') (sym (gone_well bytes d shown described))
+    (subst (λ (s : Step). IsWriteCut s written written') (sym (gone_well bytes d shown described))
     (front_of_line written written' (ready_line d.function) (subst (λ (f : FunctionFields). AppendsFront written written' (spelling_of (ready_line f))) same writes)))
 
 -- more bytes show no fault
 pub fed_well : (taken piece : List ℕ) (r : reader.ReaderFields) (shown : List Reading) (written : Option (List ℕ)) → r.stop ≡ None → r.taken ≡ taken ++ piece
     → (r.stop ≢ Some reads.NoMemory → r.stop ≡ shown_stop (taken ++ piece))
-    → Reaches (step_feed (taken ++ piece) shown) (StageStands (stages.Describing r) shown) written written
+    → Reaches (step_feed (taken ++ piece) shown) (BusStageStands (stages.Describing r) shown) written written
 unfolding step_feed
 fed_well taken piece r shown written none all told =
     let quiet : shown_fault (taken ++ piece) ≡ None = no_stop_no_fault (shown_fault (taken ++ piece)) (sym (told (λ n. cc)) ∙ none) in
     let P : Option GrammarFault → Type 0 =
-    λ o. Reaches (if_no_fault o (silently (describing (taken ++ piece) shown))) (StageStands (stages.Describing r) shown) written written
+    λ o. Reaches (if_no_fault o (silently (describing (taken ++ piece) shown))) (BusStageStands (stages.Describing r) shown) written written
     in
     subst P (sym quiet) ((all, none, refl), Appends-nil written)
 

@@ -11,7 +11,7 @@ use Rattle.uac_alt.specs.AltStreams.{linked_channels}
 use Rattle.uac_graph.specs.Meaning.{entity}
 use Rattle.uac_device.proofs.GivenFrames.{find_own}
 use Rattle.uac_device.proofs.SettingStreams.{channels_linked}
-use Rattle.uac_host.specs.Calls.{AreWhole, channels_at}
+use Rattle.uac_host.specs.HostCalls.{AreWhole, channels_at}
 use Rattle.uac_running.specs.RunningNames.{are_frames, is_out}
 
 -- what was found stands at a place, and passes

@@ -13,15 +13,15 @@ use Rattle.uac_bus.specs.declared.bus.BusStage.TheVariants as stages
 use Rattle.uac_pcm.specs.declared.tones.Tone.{Tone}
 use Rattle.uac_pcm.specs.declared.tones.Tone.TheVariants.{Silent, Ramp, Noise}
 use Rattle.uac_units.specs.Hearing.{Reading}
-use Rattle.uac_script.specs.Line.{said_tone_of}
+use Rattle.uac_script.specs.Line.{phrase_tone_of}
 use Rattle.uac_script.specs.Lent.{lent_phrase}
 use Rattle.uac_script.specs.Phrase.{Phrase, nothing_line, bytes_line, go_line}
 use Rattle.uac_bus.specs.declared.fault.BusFault.{BusFault}
 use Rattle.uac_bus.specs.BusWorld.{BusWorld, describing, running, Step, done, refused, unless, breaks_rule, tone_of, step_feed, step_go, step, step_running}
-use Rattle.uac_bus.specs.BusKept.{BusFields, BusStands, StageStands, Reaches, Prevents, Does, Answers, is_append, may_want}
+use Rattle.uac_bus.specs.BusKept.{BusFields, BusStands, BusStageStands, Reaches, Prevents, Does, Answers, is_append, may_want}
 
 -- a tone is what its words spell
-pub tone_back : (tone : Tone) → tone_of (said_tone_of tone) ≡ tone
+pub tone_back : (tone : Tone) → tone_of (phrase_tone_of tone) ≡ tone
 tone_back Silent = refl
 tone_back (Ramp first rise) = refl
 tone_back (Noise seed) = refl
@@ -37,7 +37,7 @@ unless_fails false rule s e = refl
 
 -- a step that was done leaves a bus that stands for the next world, where it keeps no fault
 pub answered : (s : Step) (memory : Bool) (bus : BusFields) (shown : List Reading) (written written' : Option (List ℕ)) (result : Result (Unit {0}) BusFault)
-    → OnOk result (bus.fault ≡ None) → Does s memory (StageStands bus.stage shown) written written' result → Does s memory (BusStands bus shown) written written' result
+    → OnOk result (bus.fault ≡ None) → Does s memory (BusStageStands bus.stage shown) written written' result → Does s memory (BusStands bus shown) written written' result
 answered (done next text) memory bus shown written written' (Ok _) none does = (record { going = none; stage = does.0 }, does.1)
 answered (refused fault) memory bus shown written written' (Ok _) none does = absurd does
 answered s memory bus shown written written' (Err fault) none does = does
@@ -51,36 +51,36 @@ answers_same p q w bus shown written written' result same answers =
 -- ---- a line in each stage
 
 -- a line that does nothing
-pub idle_in : (r : reader.ReaderFields) (shown : List Reading) (w : BusWorld) (written : Option (List ℕ)) → StageStands (stages.Describing r) shown w
-    → Reaches (step nothing_line w) (StageStands (stages.Describing r) shown) written written
+pub idle_in : (r : reader.ReaderFields) (shown : List Reading) (w : BusWorld) (written : Option (List ℕ)) → BusStageStands (stages.Describing r) shown w
+    → Reaches (step nothing_line w) (BusStageStands (stages.Describing r) shown) written written
 unfolding step
 idle_in r shown (describing bytes heard) written s = (s, Appends-nil written)
 idle_in r shown (running world) written s = absurd s
 
 -- more bytes
 pub fed_in : (r r' : reader.ReaderFields) (more : List ℕ) (shown : List Reading) (w : BusWorld) (written : Option (List ℕ)) (result : Result (Unit {0}) BusFault)
-    → StageStands (stages.Describing r) shown w
-    → (r.stop ≡ None → (heard : List Reading) (old : Option (List ℕ)) → Does (step_feed (r.taken ++ more) heard) true (StageStands (stages.Describing r') heard) old old result)
-    → Does (step (bytes_line more) w) (may_want (bytes_line more) w) (StageStands (stages.Describing r') shown) written written result
+    → BusStageStands (stages.Describing r) shown w
+    → (r.stop ≡ None → (heard : List Reading) (old : Option (List ℕ)) → Does (step_feed (r.taken ++ more) heard) true (BusStageStands (stages.Describing r') heard) old old result)
+    → Does (step (bytes_line more) w) (may_want (bytes_line more) w) (BusStageStands (stages.Describing r') shown) written written result
 unfolding step
 fed_in r r' more shown (describing bytes heard) written result s does =
-    let before : Does (step_feed (r.taken ++ more) shown) true (StageStands (stages.Describing r') shown) written written result = does s.1 shown written in
-    subst (λ (bs : List ℕ). Does (step_feed (bs ++ more) heard) true (StageStands (stages.Describing r') shown) written written result) s.0
-    (subst (λ (xs : List Reading). Does (step_feed (r.taken ++ more) xs) true (StageStands (stages.Describing r') shown) written written result) s.2 before)
+    let before : Does (step_feed (r.taken ++ more) shown) true (BusStageStands (stages.Describing r') shown) written written result = does s.1 shown written in
+    subst (λ (bs : List ℕ). Does (step_feed (bs ++ more) heard) true (BusStageStands (stages.Describing r') shown) written written result) s.0
+    (subst (λ (xs : List Reading). Does (step_feed (r.taken ++ more) xs) true (BusStageStands (stages.Describing r') shown) written written result) s.2 before)
 fed_in r r' more shown (running world) written result s does = absurd s
 
 -- the descriptor's end, of a reader that was taken out
 pub begun_in : (r whole : reader.ReaderFields) (p : RunningFields) (shown : List Reading) (w : BusWorld) (written written' : Option (List ℕ))
-    → whole ≡ r → StageStands (stages.Describing r) shown w → ((heard : List Reading) → Reaches (step_go whole.taken heard) (StageStands (stages.Running p) heard) written written')
-    → Reaches (step go_line w) (StageStands (stages.Running p) shown) written written'
+    → whole ≡ r → BusStageStands (stages.Describing r) shown w → ((heard : List Reading) → Reaches (step_go whole.taken heard) (BusStageStands (stages.Running p) heard) written written')
+    → Reaches (step go_line w) (BusStageStands (stages.Running p) shown) written written'
 unfolding step
 begun_in r whole p shown (describing bytes heard) written written' same s begins =
-    subst (λ (bs : List ℕ). Reaches (step_go bs heard) (StageStands (stages.Running p) shown) written written') (ap (λ (x : reader.ReaderFields). x.taken) same ∙ s.0)
-    (subst (λ (xs : List Reading). Reaches (step_go whole.taken xs) (StageStands (stages.Running p) shown) written written') s.2 (begins shown))
+    subst (λ (bs : List ℕ). Reaches (step_go bs heard) (BusStageStands (stages.Running p) shown) written written') (ap (λ (x : reader.ReaderFields). x.taken) same ∙ s.0)
+    (subst (λ (xs : List Reading). Reaches (step_go whole.taken xs) (BusStageStands (stages.Running p) shown) written written') s.2 (begins shown))
 begun_in r whole p shown (running world) written written' same s begins = absurd s
 
 pub unbegun_in : (r whole : reader.ReaderFields) (fault : BusFault) (shown : List Reading) (w : BusWorld) (written written' : Option (List ℕ))
-    → whole ≡ r → StageStands (stages.Describing r) shown w → ((heard : List Reading) → Prevents fault true (step_go whole.taken heard) written written')
+    → whole ≡ r → BusStageStands (stages.Describing r) shown w → ((heard : List Reading) → Prevents fault true (step_go whole.taken heard) written written')
     → Prevents fault (may_want go_line w) (step go_line w) written written'
 unfolding step
 unbegun_in r whole fault shown (describing bytes heard) written written' same s prevents =
@@ -89,7 +89,7 @@ unbegun_in r whole fault shown (describing bytes heard) written written' same s 
 unbegun_in r whole fault shown (running world) written written' same s prevents = absurd s
 
 -- the descriptor's end once more
-pub gone_before : (p : RunningFields) (shown : List Reading) (w : BusWorld) → StageStands (stages.Running p) shown w → step go_line w ≡ breaks_rule 5
+pub gone_before : (p : RunningFields) (shown : List Reading) (w : BusWorld) → BusStageStands (stages.Running p) shown w → step go_line w ≡ breaks_rule 5
 unfolding step
 gone_before p shown (describing bytes heard) s = absurd s
 gone_before p shown (running r) s = refl
@@ -119,7 +119,7 @@ pub out_of : {A B P : Type 0} → A ⊎ B → (A → P) → (B → P) → P
 out_of (inl a) f g = f a
 out_of (inr b) f g = g b
 
-pub early_in : (r : reader.ReaderFields) (line : LentLine) (shown : List Reading) (w : BusWorld) → StageStands (stages.Describing r) shown w
+pub early_in : (r : reader.ReaderFields) (line : LentLine) (shown : List Reading) (w : BusWorld) → BusStageStands (stages.Describing r) shown w
     → is_later line ≡ true → step (lent_phrase line) w ≡ breaks_rule 5
 unfolding step
 early_in r line shown (running world) s later = absurd s
@@ -141,9 +141,9 @@ early_in r lines.Report shown (describing bs heard) s later = refl
 
 -- a line of the running device
 pub played_in : (p p' : RunningFields) (phrase : Phrase) (shown shown' : List Reading) (w : BusWorld) (written written' : Option (List ℕ)) (result : Result (Unit {0}) BusFault)
-    → StageStands (stages.Running p) shown w
-    → ((r : RunningWorld) → play.RunningStandsBetween p shown r → Does (step_running r phrase) (is_append phrase) (StageStands (stages.Running p') shown') written written' result)
-    → Does (step phrase w) (may_want phrase w) (StageStands (stages.Running p') shown') written written' result
+    → BusStageStands (stages.Running p) shown w
+    → ((r : RunningWorld) → play.RunningStandsBetween p shown r → Does (step_running r phrase) (is_append phrase) (BusStageStands (stages.Running p') shown') written written' result)
+    → Does (step phrase w) (may_want phrase w) (BusStageStands (stages.Running p') shown') written written' result
 unfolding step
 played_in p p' phrase shown shown' (describing bytes heard) written written' result s does = absurd s
 played_in p p' phrase shown shown' (running r) written written' result s does = does r s

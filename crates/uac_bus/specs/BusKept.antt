@@ -18,16 +18,16 @@ pub record BusFields : Type 0 where
   pub fault : Option BusFault
 
 -- how far the bus is, and how far the world
-abbrev pub StageStands : BusStage → List Reading → BusWorld → Type 0
-StageStands (stages.Describing reader) meters (describing bytes shown) = (reader.taken ≡ bytes) × (reader.stop ≡ None) × (meters ≡ shown)
-StageStands (stages.Describing reader) meters (running r) = ⊥
-StageStands (stages.Running p) meters (describing bytes shown) = ⊥
-StageStands (stages.Running p) meters (running r) = play.RunningStandsBetween p meters r
+abbrev pub BusStageStands : BusStage → List Reading → BusWorld → Type 0
+BusStageStands (stages.Describing reader) meters (describing bytes shown) = (reader.taken ≡ bytes) × (reader.stop ≡ None) × (meters ≡ shown)
+BusStageStands (stages.Describing reader) meters (running r) = ⊥
+BusStageStands (stages.Running p) meters (describing bytes shown) = ⊥
+BusStageStands (stages.Running p) meters (running r) = play.RunningStandsBetween p meters r
 
 -- the bus, with meters that show this, stands for the world: it keeps no fault
 pub record BusStands (bus : BusFields) (meters : List Reading) (w : BusWorld) : Type 0 where
   pub going : bus.fault ≡ None
-  pub stage : StageStands bus.stage meters w
+  pub stage : BusStageStands bus.stage meters w
 
 -- a line for which memory may be wanted: one of the descriptor, and samples for a track
 abbrev pub takes_memory : Phrase → Bool
@@ -57,13 +57,13 @@ Reaches (done next lines) Holds written written' = Holds next × Appends written
 Reaches (refused fault) Holds written written' = ⊥
 
 -- a write failed in the middle of the step's lines
-abbrev pub IsCut : Step → Option (List ℕ) → Option (List ℕ) → Type 0
-IsCut (done next lines) written written' = AppendsFront written written' (text_of lines)
-IsCut (refused fault) written written' = ⊥
+abbrev pub IsWriteCut : Step → Option (List ℕ) → Option (List ℕ) → Type 0
+IsWriteCut (done next lines) written written' = AppendsFront written written' (text_of lines)
+IsWriteCut (refused fault) written written' = ⊥
 
 -- why a step wasn't done; memory may be wanted only where this says so
 abbrev pub Prevents : BusFault → Bool → Step → Option (List ℕ) → Option (List ℕ) → Type 0
-Prevents faults.WriteFault memory s written written' = IsCut s written written'
+Prevents faults.WriteFault memory s written written' = IsWriteCut s written written'
 Prevents faults.NoMemory memory s written written' = memory ≡ true
 Prevents fault memory s written written' = s ≡ refused fault
 

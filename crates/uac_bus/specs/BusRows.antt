@@ -8,12 +8,12 @@ use Rattle.uac_bus.specs.declared.fault.BusFault.{BusFault}
 use Rattle.uac_bus.specs.declared.fault.BusFault.TheVariants as faults
 use Rattle.uac_bus.specs.declared.bus.BusStage.TheVariants as stages
 use Rattle.uac_bus.specs.BusWorld.{Step}
-use Rattle.uac_bus.specs.BusKept.{StageStands, Reaches, Prevents}
+use Rattle.uac_bus.specs.BusKept.{BusStageStands, Reaches, Prevents}
 
 -- what the descriptor's end is answered: the running device stands for the next world
-abbrev pub Begins : Step → List Reading → Option (List ℕ) → Option (List ℕ) → Result RunningFields BusFault → Type 0
-Begins step shown written written' (Ok p) = Reaches step (StageStands (stages.Running p) shown) written written'
-Begins step shown written written' (Err fault) = Prevents fault true step written written'
+abbrev pub BeginsRunning : Step → List Reading → Option (List ℕ) → Option (List ℕ) → Result RunningFields BusFault → Type 0
+BeginsRunning step shown written written' (Ok p) = Reaches step (BusStageStands (stages.Running p) shown) written written'
+BeginsRunning step shown written written' (Err fault) = Prevents fault true step written written'
 
 -- a fault of the descriptor, as the bus tells it
 abbrev pub bus_fault_of : DescriptorFault → BusFault

@@ -8,15 +8,15 @@ use Rattle.uac_sentence.specs.declared.faults.GrammarFault.{GrammarFault}
 use Rattle.uac_sentence.specs.Grammar.{first_fault}
 use Rattle.uac_grammar.specs.Stop.{shown_fault}
 use Rattle.uac_topology_rules.specs.declared.fault.TopologyFault.{TopologyFault}
-use Rattle.uac_topology.specs.Topology.{first_broken}
+use Rattle.uac_topology.specs.Topology.{first_fault_of}
 use Rattle.uac_units.specs.Hearing.{Reading}
-use Rattle.uac_script.specs.Phrase.{SaidTone, silent, ramp_tone, noise_tone}
+use Rattle.uac_script.specs.Phrase.{PhraseTone, silent, ramp_tone, noise_tone}
 use Rattle.uac_script.specs.Phrase.{Phrase, nothing_line, bytes_line, go_line, control_line, get_line, set_line, show_line, break_line}
 use Rattle.uac_script.specs.Phrase.{append_line, track_line, jack_line, deviate_line, microframes_line, detail_line, report_line}
 use Rattle.uac_transcript.specs.Transcript.{Said}
-use Rattle.uac_running.specs.RunningWorld.{RunningWorld, at_start, with_tone, with_deviation, with_detail}
+use Rattle.uac_running.specs.RunningWorld.{RunningWorld, at_start, with_jack_tone, with_deviation, with_detail}
 use Rattle.uac_running.specs.RunningWorld.{with_samples_on, with_track}
-use Rattle.uac_running.specs.RunningNames.{are_frames, has_domain, has_jack, has_out, names_stream, size_of}
+use Rattle.uac_running.specs.RunningNames.{are_frames, has_domain, has_jack, has_out, names_stream, natural_of_int}
 use Rattle.uac_streaming.specs.Telling.{Telling}
 use Rattle.uac_running.specs.Events.{microframes}
 use Rattle.uac_running.specs.RunningTransfers.{element_named, read_element, set_element, show_element, transfer, with_break}
@@ -42,10 +42,10 @@ pub data Step : Type 0 where
 abbrev pub start : List Reading → BusWorld
 start meters = describing [] meters
 
-abbrev pub tone_of : SaidTone → Tone
+abbrev pub tone_of : PhraseTone → Tone
 tone_of silent = Silent
 tone_of (ramp_tone first rise) = Ramp first rise
-tone_of (noise_tone seed) = Noise (size_of seed)
+tone_of (noise_tone seed) = Noise (natural_of_int seed)
 
 -- a line that breaks this rule of the script
 abbrev pub breaks_rule : ℕ → Step
@@ -79,7 +79,7 @@ unfoldable pub step_go : List ℕ → List Reading → Step
 step_go bytes meters =
     let function = function_of (blocks_of bytes) in
     if_no_fault (first_fault bytes)
-    (if_sound (first_broken (blocks_of bytes)) (done (running (at_start bytes function meters)) (ready_line function ∷ [])))
+    (if_sound (first_fault_of (blocks_of bytes)) (done (running (at_start bytes function meters)) (ready_line function ∷ [])))
 
 abbrev pub step_describing : List ℕ → List Reading → Phrase → Step
 step_describing bytes meters nothing_line = silently (describing bytes meters)
@@ -108,18 +108,19 @@ step_running r (set_line name value) =
 step_running r (show_line name) = on_element (element_named r name) (λ x. step_telling (show_element x r))
 step_running r (break_line after) = silently (running (with_break after r))
 step_running r (append_line number samples) =
-    unless (has_out r.device.function.streams (size_of number)) 6
-    (unless (are_frames r.device.function (size_of number) (length samples)) 7
-    (silently (running (with_samples_on (size_of number) samples r))))
+    unless (has_out r.device.function.streams (natural_of_int number)) 6
+    (unless (are_frames r.device.function (natural_of_int number) (length samples)) 7
+    (silently (running (with_samples_on (natural_of_int number) samples r))))
 step_running r (track_line number tone) =
-    unless (has_out r.device.function.streams (size_of number)) 6 (silently (running (with_track (size_of number) (tone_of tone) r)))
+    unless (has_out r.device.function.streams (natural_of_int number)) 6
+    (silently (running (with_track (natural_of_int number) (tone_of tone) r)))
 step_running r (jack_line terminal tone) =
-    unless (has_jack r (size_of terminal)) 6 (silently (running (with_tone (size_of terminal) (tone_of tone) r)))
+    unless (has_jack r (natural_of_int terminal)) 6 (silently (running (with_jack_tone (natural_of_int terminal) (tone_of tone) r)))
 step_running r (deviate_line domain ppm) =
-    unless (has_domain r (size_of domain)) 6 (silently (running (with_deviation (size_of domain) ppm r)))
+    unless (has_domain r (natural_of_int domain)) 6 (silently (running (with_deviation (natural_of_int domain) ppm r)))
 step_running r (microframes_line count marks) =
-    unless (list_all (names_stream r.device.function.streams) marks) 6 (step_telling (microframes marks (size_of count) r))
-step_running r (detail_line level) = silently (running (with_detail (size_of level) r))
+    unless (list_all (names_stream r.device.function.streams) marks) 6 (step_telling (microframes marks (natural_of_int count) r))
+step_running r (detail_line level) = silently (running (with_detail (natural_of_int level) r))
 step_running r report_line = done (running r) (report_lines r)
 
 -- what a line makes of a world

@@ -2,13 +2,13 @@
 ghost use Rattle.std.specs.Prelude.{◌≡◌, ◌≢◌, ◌≤◌, ◌⊎◌, List, true, false, IfErr, OnOk};
 ghost use Rattle.uac_units.specs.Fitting.{IsFitted};
 ghost use Rattle.uac_units.specs.Hearing.{Reading};
-ghost use Rattle.uac_units.specs.Panel.{readings};
+ghost use Rattle.uac_units.specs.MeterReadings.{readings};
 ghost use Rattle.uac_edges.specs.Faults.{Rose};
 ghost use Rattle.uac_script.specs.Line.{phrase_of, IsLineInRange};
-ghost use Rattle.uac_script.specs.Lent.{lent_phrase, LentKeeps};
+ghost use Rattle.uac_script.specs.Lent.{lent_phrase, IsLentInRange};
 ghost use Rattle.uac_script.specs.Phrase.{go_line};
 ghost use Rattle.uac_bus.specs.BusWorld.{BusWorld, start, step, finish_of};
-ghost use Rattle.uac_bus.specs.BusKept.{BusStands, StageStands, Does, Answers, may_want, is_final};
+ghost use Rattle.uac_bus.specs.BusKept.{BusStands, BusStageStands, Does, Answers, may_want, is_final};
 
 use crate::describing::{begin, feed};
 use crate::fault::BusFault;
@@ -120,7 +120,7 @@ impl Bus {
         sink: &mut K,
     ) -> Result<(), BusFault>
         requires rack { IsFitted (λ v x. (⟦<dyn Unit as Unit>⟧ v).kind_of x) rack.now }
-        requires keeps { LentKeeps line }
+        requires keeps { IsLentInRange line }
 
         // What it does, in every world for which the bus and the meters stand: the step of what the line says, with its lines.
         ensures answers { (w : BusWorld) → BusStands self.old (readings (λ v x. (⟦<dyn Meter as Meter>⟧ v).reading_of x) meters.old) w
@@ -192,8 +192,8 @@ fn is_kept(fault: BusFault) -> bool
 /// The descriptor's end. It is apart from the other lines, since a call clears at its entry what it has room for, here a whole device.
 #[inline(never)]
 fn go<K: Sink>(alloc: Global, stage: &mut BusStage, sink: &mut K) -> Result<(), BusFault>
-    ensures does { (shown : List Reading) (w : BusWorld) → StageStands stage.old shown w
-        → Does (step go_line w) (may_want go_line w) (StageStands stage.new shown) (K.written sink.old) (K.written sink.new) result }
+    ensures does { (shown : List Reading) (w : BusWorld) → BusStageStands stage.old shown w
+        → Does (step go_line w) (may_want go_line w) (BusStageStands stage.new shown) (K.written sink.old) (K.written sink.new) result }
     ensures script { IfErr result (λ fault. is_final fault ≡ false → stage.new ≡ stage.old) }
     ensures unwritten { IfErr result (λ fault. fault ≢ BusFault.WriteFault → sink.new ≡ sink.old) }
     ensures cause { IfErr result (λ fault. fault ≡ BusFault.WriteFault → Rose (K.faults sink.old) (K.faults sink.new)) }
@@ -226,10 +226,10 @@ fn advance<K: Sink>(
     sink: &mut K,
 ) -> Result<(), BusFault>
     requires rack { IsFitted (λ v x. (⟦<dyn Unit as Unit>⟧ v).kind_of x) rack.now }
-    requires keeps { LentKeeps line }
-    ensures does { (w : BusWorld) → StageStands stage.old (readings (λ v x. (⟦<dyn Meter as Meter>⟧ v).reading_of x) meters.old) w
+    requires keeps { IsLentInRange line }
+    ensures does { (w : BusWorld) → BusStageStands stage.old (readings (λ v x. (⟦<dyn Meter as Meter>⟧ v).reading_of x) meters.old) w
         → Does (step (lent_phrase line.entry) w) (may_want (lent_phrase line.entry) w)
-        (StageStands stage.new (readings (λ v x. (⟦<dyn Meter as Meter>⟧ v).reading_of x) meters.new)) (K.written sink.old)
+        (BusStageStands stage.new (readings (λ v x. (⟦<dyn Meter as Meter>⟧ v).reading_of x) meters.new)) (K.written sink.old)
         (K.written sink.new) result }
     ensures script { IfErr result (λ fault. is_final fault ≡ false → stage.new ≡ stage.old) }
     ensures unwritten { IfErr result (λ fault. fault ≢ BusFault.WriteFault → sink.new ≡ sink.old) }

@@ -7,8 +7,8 @@ ghost use Rattle.uac_edges.specs.Writing.{Writes};
 ghost use Rattle.uac_running.specs.RunningLines.{ready_line};
 ghost use Rattle.uac_transcript.specs.Transcript.{spelling_of};
 ghost use Rattle.uac_bus.specs.BusWorld.{step_feed, step_go};
-ghost use Rattle.uac_bus.specs.BusKept.{StageStands, Does, is_final};
-ghost use Rattle.uac_bus.specs.BusRows.{Begins, bus_fault_of};
+ghost use Rattle.uac_bus.specs.BusKept.{BusStageStands, Does, is_final};
+ghost use Rattle.uac_bus.specs.BusRows.{BeginsRunning, bus_fault_of};
 
 use crate::bus::BusStage;
 use crate::fault::BusFault;
@@ -21,7 +21,8 @@ use uac_running::Running;
 /// Takes more bytes of the descriptor.
 pub(crate) fn feed(reader: &mut Reader, bytes: &[u8]) -> Result<(), BusFault>
     ensures does { reader.old.stop ≡ None → (shown : List Reading) (written : Option (List ℕ))
-        → Does (step_feed (reader.old.taken ++ bytes.now) shown) true (StageStands (BusStage.Describing reader.new) shown) written written
+        → Does (step_feed (reader.old.taken ++ bytes.now) shown) true (BusStageStands (BusStage.Describing reader.new) shown) written
+        written
         result }
     ensures fault { IfErr result (λ fault. is_final fault ≡ true) }
     ensures unwritten { IfErr result (λ fault. fault ≢ BusFault.WriteFault) }
@@ -51,7 +52,8 @@ pub(crate) fn begin<K: Sink>(
     reader: Reader,
     sink: &mut K,
 ) -> Result<Running, BusFault>
-    ensures begins { (shown : List Reading) → Begins (step_go reader.taken shown) shown (K.written sink.old) (K.written sink.new) result }
+    ensures begins { (shown : List Reading)
+        → BeginsRunning (step_go reader.taken shown) shown (K.written sink.old) (K.written sink.new) result }
     ensures fault { IfErr result (λ fault. is_final fault ≡ true) }
     ensures unwritten { IfErr result (λ fault. fault ≢ BusFault.WriteFault → sink.new ≡ sink.old) }
     ensures cause { IfErr result (λ fault. fault ≡ BusFault.WriteFault → Rose (K.faults sink.old) (K.faults sink.new)) }
@@ -71,7 +73,7 @@ fn start<K: Sink>(
     sink: &mut K,
 ) -> Result<Running, BusFault>
     ensures begins { (bytes : List ℕ) → Describes bytes (Ok described)
-        → (shown : List Reading) → Begins (step_go bytes shown) shown (K.written sink.old) (K.written sink.new) result }
+        → (shown : List Reading) → BeginsRunning (step_go bytes shown) shown (K.written sink.old) (K.written sink.new) result }
     ensures fault { IfErr result (λ fault. is_final fault ≡ true) }
     ensures unwritten { IfErr result (λ fault. fault ≢ BusFault.WriteFault → sink.new ≡ sink.old) }
     ensures cause { IfErr result (λ fault. fault ≡ BusFault.WriteFault → Rose (K.faults sink.old) (K.faults sink.new)) }

@@ -2,22 +2,22 @@
 ghost use Rattle.std.specs.Prelude.{◌≡◌, ◌≢◌, ◌≤◌, ◌≤ℤ◌, ℕ, List, Option, true, false, pos, negsuc, map, IfErr, OnOk, OnErr};
 ghost use Rattle.uac_units.specs.Fitting.{IsFitted};
 ghost use Rattle.uac_units.specs.Hearing.{Reading};
-ghost use Rattle.uac_units.specs.Panel.{readings};
+ghost use Rattle.uac_units.specs.MeterReadings.{readings};
 ghost use Rattle.uac_edges.specs.Faults.{Rose};
-ghost use Rattle.uac_script.specs.Line.{said_tone_of, said_mark};
-ghost use Rattle.uac_script.specs.Lent.{lent_phrase, LentKeeps};
+ghost use Rattle.uac_script.specs.Line.{phrase_tone_of, phrase_mark};
+ghost use Rattle.uac_script.specs.Lent.{lent_phrase, IsLentInRange};
 ghost use Rattle.uac_script.specs.Phrase as phrase;
 ghost use Rattle.uac_running.specs.RunningWorld.{RunningWorld};
 ghost use Rattle.uac_running.specs.RunningKept.{RunningStandsBetween};
 ghost use Rattle.uac_bus.specs.BusWorld.{step_running};
-ghost use Rattle.uac_bus.specs.BusKept.{StageStands, Does, is_append, is_final};
+ghost use Rattle.uac_bus.specs.BusKept.{BusStageStands, Does, is_append, is_final};
 
 use crate::bus::BusStage;
 use crate::fault::BusFault;
 use crate::transfers::{control, get, set, show};
 use uac_edges::Sink;
 use uac_pcm::Tone;
-use uac_running::{Running, are_frames, are_placed, has_out};
+use uac_running::{Running, all_name_streams, are_frames, has_out};
 use uac_script::{LentLine, Mark};
 use uac_topology::laws::{functions_are_sound, interfaces_are_numbered};
 use uac_units::{Meter, Meters, Rack, Unit};
@@ -26,7 +26,7 @@ use uac_units::{Meter, Meters, Rack, Unit};
 fn append(running: &mut Running, interface: u8, samples: &[i32]) -> Result<(), BusFault>
     ensures does { (shown : List Reading) (r : RunningWorld) (written : Option (List ℕ)) → RunningStandsBetween running.old shown r
         → Does (step_running r (phrase.append_line (pos interface) samples.now)) true
-        (StageStands (BusStage.Running running.new) shown) written written result }
+        (BusStageStands (BusStage.Running running.new) shown) written written result }
     ensures unwritten { IfErr result (λ fault. fault ≢ BusFault.WriteFault) }
     ensures script { IfErr result (λ fault. is_final fault ≡ false → running.new ≡ running.old) }
 {
@@ -48,8 +48,8 @@ fn append(running: &mut Running, interface: u8, samples: &[i32]) -> Result<(), B
 /// The tone of a track.
 fn track(running: &mut Running, interface: u8, tone: Tone) -> Result<(), BusFault>
     ensures does { (shown : List Reading) (r : RunningWorld) (written : Option (List ℕ)) → RunningStandsBetween running.old shown r
-        → Does (step_running r (phrase.track_line (pos interface) (said_tone_of tone))) false
-        (StageStands (BusStage.Running running.new) shown) written written result }
+        → Does (step_running r (phrase.track_line (pos interface) (phrase_tone_of tone))) false
+        (BusStageStands (BusStage.Running running.new) shown) written written result }
     ensures rule { IfErr result (λ fault. is_final fault ≡ false) }
     ensures unchanged { OnErr result (running.new ≡ running.old) }
 {
@@ -63,8 +63,8 @@ fn track(running: &mut Running, interface: u8, tone: Tone) -> Result<(), BusFaul
 /// The tone of an input jack.
 fn set_jack(running: &mut Running, terminal: u8, tone: Tone) -> Result<(), BusFault>
     ensures does { (shown : List Reading) (r : RunningWorld) (written : Option (List ℕ)) → RunningStandsBetween running.old shown r
-        → Does (step_running r (phrase.jack_line (pos terminal) (said_tone_of tone))) false
-        (StageStands (BusStage.Running running.new) shown) written written result }
+        → Does (step_running r (phrase.jack_line (pos terminal) (phrase_tone_of tone))) false
+        (BusStageStands (BusStage.Running running.new) shown) written written result }
     ensures rule { IfErr result (λ fault. is_final fault ≡ false) }
     ensures unchanged { OnErr result (running.new ≡ running.old) }
 {
@@ -81,7 +81,7 @@ fn deviate(running: &mut Running, domain: u8, ppm: i32) -> Result<(), BusFault>
     requires high { ppm ≤ℤ pos 100000 }
     ensures does { (shown : List Reading) (r : RunningWorld) (written : Option (List ℕ)) → RunningStandsBetween running.old shown r
         → Does (step_running r (phrase.deviate_line (pos domain) ppm)) false
-        (StageStands (BusStage.Running running.new) shown) written written result }
+        (BusStageStands (BusStage.Running running.new) shown) written written result }
     ensures rule { IfErr result (λ fault. is_final fault ≡ false) }
     ensures unchanged { OnErr result (running.new ≡ running.old) }
 {
@@ -104,8 +104,8 @@ fn run<K: Sink>(
     requires rack { IsFitted (λ v x. (⟦<dyn Unit as Unit>⟧ v).kind_of x) rack.now }
     ensures does { (r : RunningWorld)
         → RunningStandsBetween running.old (readings (λ v x. (⟦<dyn Meter as Meter>⟧ v).reading_of x) meters.old) r
-        → Does (step_running r (phrase.microframes_line (pos count) (map said_mark marks.now))) false
-        (StageStands (BusStage.Running running.new) (readings (λ v x. (⟦<dyn Meter as Meter>⟧ v).reading_of x) meters.new))
+        → Does (step_running r (phrase.microframes_line (pos count) (map phrase_mark marks.now))) false
+        (BusStageStands (BusStage.Running running.new) (readings (λ v x. (⟦<dyn Meter as Meter>⟧ v).reading_of x) meters.new))
         (K.written sink.old) (K.written sink.new) result }
     ensures script { IfErr result (λ fault. is_final fault ≡ false → running.new ≡ running.old) }
     ensures unwritten { IfErr result (λ fault. fault ≢ BusFault.WriteFault → sink.new ≡ sink.old) }
@@ -114,7 +114,7 @@ fn run<K: Sink>(
     ensures never_falls { K.faults sink.old ≤ K.faults sink.new }
     ensures faultless { OnOk result (K.faults sink.new ≡ K.faults sink.old) }
 {
-    if !are_placed(running.function().streams(), marks) {
+    if !all_name_streams(running.function().streams(), marks) {
         return Err(BusFault::Script(6));
     }
     match running.microframes(count, marks, rack, meters, sink) {
@@ -128,7 +128,7 @@ fn report<K: Sink>(running: &Running, meters: &Meters, sink: &mut K) -> Result<(
     ensures does { (r : RunningWorld)
         → RunningStandsBetween running.now (readings (λ v x. (⟦<dyn Meter as Meter>⟧ v).reading_of x) meters.now) r
         → Does (step_running r phrase.report_line) false
-        (StageStands (BusStage.Running running.now) (readings (λ v x. (⟦<dyn Meter as Meter>⟧ v).reading_of x) meters.now))
+        (BusStageStands (BusStage.Running running.now) (readings (λ v x. (⟦<dyn Meter as Meter>⟧ v).reading_of x) meters.now))
         (K.written sink.old) (K.written sink.new) result }
     ensures cause { IfErr result (λ fault. (fault ≡ BusFault.WriteFault) × Rose (K.faults sink.old) (K.faults sink.new)) }
     ensures never_falls { K.faults sink.old ≤ K.faults sink.new }
@@ -149,11 +149,11 @@ pub(crate) fn play<K: Sink>(
     sink: &mut K,
 ) -> Result<(), BusFault>
     requires rack { IsFitted (λ v x. (⟦<dyn Unit as Unit>⟧ v).kind_of x) rack.now }
-    requires keeps { LentKeeps line }
+    requires keeps { IsLentInRange line }
     ensures does { (r : RunningWorld)
         → RunningStandsBetween running.old (readings (λ v x. (⟦<dyn Meter as Meter>⟧ v).reading_of x) meters.old) r
         → Does (step_running r (lent_phrase line.entry)) (is_append (lent_phrase line.entry))
-        (StageStands (BusStage.Running running.new) (readings (λ v x. (⟦<dyn Meter as Meter>⟧ v).reading_of x) meters.new))
+        (BusStageStands (BusStage.Running running.new) (readings (λ v x. (⟦<dyn Meter as Meter>⟧ v).reading_of x) meters.new))
         (K.written sink.old) (K.written sink.new) result }
     ensures script { IfErr result (λ fault. is_final fault ≡ false → running.new ≡ running.old) }
     ensures unwritten { IfErr result (λ fault. fault ≢ BusFault.WriteFault → sink.new ≡ sink.old) }

@@ -6,7 +6,7 @@ ghost use Rattle.uac_script.specs.Phrase as phrase;
 ghost use Rattle.uac_running.specs.RunningWorld.{RunningWorld};
 ghost use Rattle.uac_running.specs.RunningKept.{RunningStandsBetween};
 ghost use Rattle.uac_bus.specs.BusWorld.{step_running};
-ghost use Rattle.uac_bus.specs.BusKept.{StageStands, Does, is_final};
+ghost use Rattle.uac_bus.specs.BusKept.{BusStageStands, Does, is_final};
 
 use crate::bus::BusStage;
 use crate::fault::BusFault;
@@ -23,7 +23,7 @@ pub(crate) fn control<K: Sink>(
 ) -> Result<(), BusFault>
     ensures does { (shown : List Reading) (r : RunningWorld) → RunningStandsBetween running.old shown r
         → Does (step_running r (phrase.control_line setup sent.now)) false
-        (StageStands (BusStage.Running running.new) shown) (K.written sink.old) (K.written sink.new) result }
+        (BusStageStands (BusStage.Running running.new) shown) (K.written sink.old) (K.written sink.new) result }
     ensures script { IfErr result (λ fault. is_final fault ≡ false → running.new ≡ running.old) }
     ensures unwritten { IfErr result (λ fault. fault ≢ BusFault.WriteFault → sink.new ≡ sink.old) }
     ensures cause { IfErr result (λ fault. fault ≡ BusFault.WriteFault → Rose (K.faults sink.old) (K.faults sink.new)) }
@@ -41,7 +41,7 @@ pub(crate) fn control<K: Sink>(
 pub(crate) fn get<K: Sink>(running: &mut Running, name: &[u8], sink: &mut K) -> Result<(), BusFault>
     ensures does { (shown : List Reading) (r : RunningWorld) → RunningStandsBetween running.old shown r
         → Does (step_running r (phrase.get_line name.now)) false
-        (StageStands (BusStage.Running running.new) shown) (K.written sink.old) (K.written sink.new) result }
+        (BusStageStands (BusStage.Running running.new) shown) (K.written sink.old) (K.written sink.new) result }
     ensures script { IfErr result (λ fault. is_final fault ≡ false → running.new ≡ running.old) }
     ensures unwritten { IfErr result (λ fault. fault ≢ BusFault.WriteFault → sink.new ≡ sink.old) }
     ensures cause { IfErr result (λ fault. fault ≡ BusFault.WriteFault → Rose (K.faults sink.old) (K.faults sink.new)) }
@@ -66,7 +66,7 @@ pub(crate) fn set<K: Sink>(
 ) -> Result<(), BusFault>
     ensures does { (shown : List Reading) (r : RunningWorld) → RunningStandsBetween running.old shown r
         → Does (step_running r (phrase.set_line name.now value)) false
-        (StageStands (BusStage.Running running.new) shown) (K.written sink.old) (K.written sink.new) result }
+        (BusStageStands (BusStage.Running running.new) shown) (K.written sink.old) (K.written sink.new) result }
     ensures script { IfErr result (λ fault. is_final fault ≡ false → running.new ≡ running.old) }
     ensures unwritten { IfErr result (λ fault. fault ≢ BusFault.WriteFault → sink.new ≡ sink.old) }
     ensures cause { IfErr result (λ fault. fault ≡ BusFault.WriteFault → Rose (K.faults sink.old) (K.faults sink.new)) }
@@ -89,7 +89,7 @@ pub(crate) fn set<K: Sink>(
 pub(crate) fn show<K: Sink>(running: &Running, name: &[u8], sink: &mut K) -> Result<(), BusFault>
     ensures does { (shown : List Reading) (r : RunningWorld) → RunningStandsBetween running.now shown r
         → Does (step_running r (phrase.show_line name.now)) false
-        (StageStands (BusStage.Running running.now) shown) (K.written sink.old) (K.written sink.new) result }
+        (BusStageStands (BusStage.Running running.now) shown) (K.written sink.old) (K.written sink.new) result }
     ensures unwritten { IfErr result (λ fault. fault ≢ BusFault.WriteFault → sink.new ≡ sink.old) }
     ensures cause { IfErr result (λ fault. fault ≡ BusFault.WriteFault → Rose (K.faults sink.old) (K.faults sink.new)) }
     ensures never_falls { K.faults sink.old ≤ K.faults sink.new }

@@ -4,7 +4,7 @@ use Rattle.uac_edges.proofs.Consuming.{Consumes-none}
 use Rattle.uac_units.specs.Hearing.{Reading}
 use Rattle.uac_describe.specs.declared.description.Description.{Description}
 use Rattle.uac_describe.specs.declared.status.Status.{Status}
-use Rattle.uac_describe.specs.Answered.{IsAnswered}
+use Rattle.uac_describe.specs.Answered.{IsDescribed}
 use Rattle.uac_describe.specs.Closing.{Closes}
 use Rattle.uac_describe.specs.Outcome.{Outcome, stopped}
 use Rattle.uac_describe.proofs.Composing.{nothing_shown, quiet_so_far}
@@ -17,7 +17,7 @@ module _ (shown : List Reading) (a b : Option (List ℕ)) (r r' : ℕ) (w w' : O
   abbrev ended_in : Outcome → Ending
   ended_in outcome = record { outcome = outcome; meters = shown }
 
-  pub described_run : (description : Description) → IsAnswered description a b r r' w w' f f' status → IsRun (Some (Describe description)) shown shown a b r r' w w' f f' status
+  pub described_run : (description : Description) → IsDescribed description a b r r' w w' f f' status → IsRun (Some (Describe description)) shown shown a b r r' w w' f f' status
   described_run description answered = record {
     taken = answered.taken;
     end = answered.end;

@@ -11,7 +11,7 @@ use Rattle.uac_describe.specs.declared.status.Status.{Status}
 use Rattle.uac_describe.specs.declared.status.Status.TheVariants as statuses
 use Rattle.uac_cli.specs.Boxes.{IsFreshCall, fresh_readings}
 use Rattle.uac_cli.specs.Call.{ask_to_read}
-use Rattle.uac_cli.specs.Completeness.{IsComplete}
+use Rattle.uac_cli.specs.Completeness.{IsCompleteCall}
 use Rattle.uac_describe.specs.Outcome.{no_memory}
 use Rattle.uac_cli.specs.Program.{asked_by}
 use Rattle.uac_describe.specs.Closing.{Closes}
@@ -27,8 +27,8 @@ pub call_asked : (asked asked' : Option Invocation) (left left' : Option (List �
 call_asked asked asked' left left' reads reads' w w' f f' status same call = subst (λ (x : Option Invocation). IsFreshCall x left left' reads reads' w w' f f' status) same call
 
 pub whole_asked : (asked asked' : Option Invocation) (left : Option (List ℕ)) (reads reads' : ℕ) (w w' : Option (List ℕ)) (f f' : ℕ) (status : Status) → asked ≡ asked'
-    → IsComplete asked fresh_readings left reads reads' w w' f f' status → IsComplete asked' fresh_readings left reads reads' w w' f f' status
-whole_asked asked asked' left reads reads' w w' f f' status same whole = subst (λ (x : Option Invocation). IsComplete x fresh_readings left reads reads' w w' f f' status) same whole
+    → IsCompleteCall asked fresh_readings left reads reads' w w' f f' status → IsCompleteCall asked' fresh_readings left reads reads' w w' f f' status
+whole_asked asked asked' left reads reads' w w' f f' status same whole = subst (λ (x : Option Invocation). IsCompleteCall x fresh_readings left reads reads' w w' f f' status) same whole
 
 -- the same of what is left at Ok
 pub end_asked : (asked asked' : Option Invocation) (left : Option (List ℕ)) (status : Status) → asked ≡ asked' → (status ≡ statuses.Ok → ask_to_read asked ≡ true → IsAtEnd left)

@@ -17,44 +17,44 @@ use Rattle.uac_describe.specs.declared.status.Status.TheVariants as statuses
 use Rattle.uac_describe.specs.Outcome.{Outcome, no_memory}
 use Rattle.uac_scripts.specs.ScriptRun.{usage, IsRun}
 use Rattle.uac_describe.specs.Closing.{Closes, IsFaultless}
-use Rattle.uac_describe.specs.Answered.{IsAnswered}
-use Rattle.uac_cli.specs.Call.{AreAnswered, IsCall, IsDone, IsGenerated, Prints, ask_to_read, reads_all}
-use Rattle.uac_describe.specs.SettleLines.{settling}
+use Rattle.uac_describe.specs.Answered.{IsDescribed}
+use Rattle.uac_cli.specs.Call.{AreAnswered, IsCall, ComesOfCommand, IsGenerated, PrintsAlone, ask_to_read, reads_all}
+use Rattle.uac_describe.specs.SettleLines.{settle_outcome}
 use Rattle.uac_describe.proofs.Answering.{closes_faultless, told_status}
 use Rattle.uac_cli.proofs.Answering.{described_run, usage_run}
 
 -- a text was printed, and nothing was taken or heard
 pub printed : (outcome : Outcome) (shown : List Reading) (left : Option (List ℕ)) (reads : ℕ) (w w' : Option (List ℕ)) (f f' : ℕ) (status : Status)
-    → Closes outcome w w' f f' status → Prints outcome shown shown left left reads reads w w' f f' status
+    → Closes outcome w w' f f' status → PrintsAlone outcome shown shown left left reads reads w w' f f' status
 printed outcome shown left reads w w' f f' status closed = record { apart = record { heard = refl; taken = refl; read = refl }; closed = closed }
 
 -- ---- commands
 
 module _ (shown : List Reading) (a b : Option (List ℕ)) (r r' : ℕ) (w w' : Option (List ℕ)) (f f' : ℕ) (status : Status) where
-  pub done_check : (command : Command) → command ≡ commands.Check → IsAnswered Check a b r r' w w' f f' status → IsDone command shown shown a b r r' w w' f f' status
+  pub done_check : (command : Command) → command ≡ commands.Check → IsDescribed Check a b r r' w w' f f' status → ComesOfCommand command shown shown a b r r' w w' f f' status
   done_check command is answered =
-      subst (λ (c : Command). IsDone c shown shown a b r r' w w' f f' status) (sym is) (described_run shown a b r r' w w' f f' status Check answered)
+      subst (λ (c : Command). ComesOfCommand c shown shown a b r r' w w' f f' status) (sym is) (described_run shown a b r r' w w' f f' status Check answered)
 
-  pub done_show : (command : Command) → command ≡ commands.Show → IsAnswered Show a b r r' w w' f f' status → IsDone command shown shown a b r r' w w' f f' status
+  pub done_show : (command : Command) → command ≡ commands.Show → IsDescribed Show a b r r' w w' f f' status → ComesOfCommand command shown shown a b r r' w w' f f' status
   done_show command is answered =
-      subst (λ (c : Command). IsDone c shown shown a b r r' w w' f f' status) (sym is) (described_run shown a b r r' w w' f f' status Show answered)
+      subst (λ (c : Command). ComesOfCommand c shown shown a b r r' w w' f f' status) (sym is) (described_run shown a b r r' w w' f f' status Show answered)
 
-  pub done_elements : (command : Command) → command ≡ commands.Elements → IsAnswered Elements a b r r' w w' f f' status → IsDone command shown shown a b r r' w w' f f' status
+  pub done_elements : (command : Command) → command ≡ commands.Elements → IsDescribed Elements a b r r' w w' f f' status → ComesOfCommand command shown shown a b r r' w w' f f' status
   done_elements command is answered =
-      subst (λ (c : Command). IsDone c shown shown a b r r' w w' f f' status) (sym is) (described_run shown a b r r' w w' f f' status Elements answered)
+      subst (λ (c : Command). ComesOfCommand c shown shown a b r r' w w' f f' status) (sym is) (described_run shown a b r r' w w' f f' status Elements answered)
 
 module _ (shown shown' : List Reading) (a b : Option (List ℕ)) (r r' : ℕ) (w w' : Option (List ℕ)) (f f' : ℕ) (status : Status) where
-  pub done_run : (command : Command) → command ≡ commands.Run → IsRun (Some Run) shown shown' a b r r' w w' f f' status → IsDone command shown shown' a b r r' w w' f f' status
-  done_run command is run = subst (λ (c : Command). IsDone c shown shown' a b r r' w w' f f' status) (sym is) run
+  pub done_run : (command : Command) → command ≡ commands.Run → IsRun (Some Run) shown shown' a b r r' w w' f f' status → ComesOfCommand command shown shown' a b r r' w w' f f' status
+  done_run command is run = subst (λ (c : Command). ComesOfCommand c shown shown' a b r r' w w' f f' status) (sym is) run
 
   pub done_gen : (command : Command) (number : ℕ) → command ≡ commands.Gen number → IsGenerated number shown shown' a b r r' w w' f f' status
-      → IsDone command shown shown' a b r r' w w' f f' status
-  done_gen command number is generated = subst (λ (c : Command). IsDone c shown shown' a b r r' w w' f f' status) (sym is) generated
+      → ComesOfCommand command shown shown' a b r r' w w' f f' status
+  done_gen command number is generated = subst (λ (c : Command). ComesOfCommand c shown shown' a b r r' w w' f f' status) (sym is) generated
 
 pub done_settle : (shown : List Reading) (a : Option (List ℕ)) (r : ℕ) (w w' : Option (List ℕ)) (f f' : ℕ) (status : Status) (command : Command)
-    → command ≡ commands.Settle → Closes settling w w' f f' status → IsDone command shown shown a a r r w w' f f' status
+    → command ≡ commands.Settle → Closes settle_outcome w w' f f' status → ComesOfCommand command shown shown a a r r w w' f f' status
 done_settle shown a r w w' f f' status command is closed =
-    subst (λ (c : Command). IsDone c shown shown a a r r w w' f f' status) (sym is) (printed settling shown a r w w' f f' status closed)
+    subst (λ (c : Command). ComesOfCommand c shown shown a a r r w w' f f' status) (sym is) (printed settle_outcome shown a r w w' f f' status closed)
 
 -- a command that takes nothing of the source isn't one that reads it all
 pub gen_unread : (command : Command) (number : ℕ) → command ≡ commands.Gen number → reads_all command ≡ true → ⊥
@@ -88,7 +88,7 @@ generated_run number shown shown' left reads script unread w w' f f' status is r
 
 -- the words ask for a command, which was done
 pub done_call : (asked : Option Invocation) (words : Invocation) (shown shown' : List Reading) (a b : Option (List ℕ)) (r r' : ℕ) (w w' : Option (List ℕ)) (f f' : ℕ) (status : Status)
-    → asked ≡ Some words → IsDone words.command shown shown' a b r r' w w' f f' status → IsCall asked shown shown' a b r r' w w' f f' status
+    → asked ≡ Some words → ComesOfCommand words.command shown shown' a b r r' w w' f f' status → IsCall asked shown shown' a b r r' w w' f f' status
 done_call asked words shown shown' a b r r' w w' f f' status is done =
     inl (subst (λ (x : Option Invocation). AreAnswered x shown shown' a b r r' w w' f f' status) (sym is) done)
 

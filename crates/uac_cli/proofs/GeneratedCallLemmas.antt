@@ -18,7 +18,7 @@ use Rattle.uac_describe.specs.declared.status.Status.TheVariants as statuses
 use Rattle.uac_describe.specs.Outcome.{at_end}
 use Rattle.uac_scripts.specs.Script as script
 use Rattle.uac_edges.specs.TextLines.{with_newlines}
-use Rattle.uac_scripts.specs.Script.{IsLine, come_to}
+use Rattle.uac_scripts.specs.Script.{IsScriptLine, come_to}
 use Rattle.uac_scripts.specs.ScriptTranscript.{Ending, with_text_first, closed_by, ends, ending_at}
 use Rattle.uac_scripts.specs.Computed.{goes, transcript}
 use Rattle.uac_cli.specs.GeneratedCall.{GeneratedScriptsRunWhole}
@@ -26,7 +26,7 @@ use Rattle.uac_scripts.proofs.Agreeing.{all_say, is_transcript}
 use Rattle.uac_scripts.proofs.Going.{goes_at, head_nothing}
 use Rattle.uac_scripts.proofs.ScriptLemmas.{script_lines}
 
-are_lines : (texts : List (List ℕ)) → AllByRecursion IsLineOfScript texts → AllByRecursion IsLine texts
+are_lines : (texts : List (List ℕ)) → AllByRecursion IsLineOfScript texts → AllByRecursion IsScriptLine texts
 are_lines [] each = tt
 are_lines (text ∷ texts) (one, each) = (record { short = one.short; whole = one.whole }, are_lines texts each)
 

@@ -12,8 +12,8 @@ use Rattle.uac_describe.specs.declared.status.Status.TheVariants as statuses
 use Rattle.uac_describe.specs.Outcome.{Outcome, no_memory}
 use Rattle.uac_scripts.specs.ScriptRun.{IsRun}
 use Rattle.uac_describe.specs.HandingOn.{HandsOn}
-use Rattle.uac_cli.specs.Call.{AreAnswered, IsCall, IsDone, Prints}
-use Rattle.uac_describe.specs.SettleLines.{settling}
+use Rattle.uac_cli.specs.Call.{AreAnswered, IsCall, ComesOfCommand, PrintsAlone}
+use Rattle.uac_describe.specs.SettleLines.{settle_outcome}
 use Rattle.uac_describe.proofs.Answering.{closes_faultless}
 use Rattle.uac_describe.proofs.HandingOnLemmas.{closes_on, status_before}
 
@@ -37,14 +37,14 @@ module _ (w m w' : Option (List ℕ)) (f g f' : ℕ) (status status' : Status) (
   }
 
   prints_on : (outcome : Outcome) (shown shown' : List Reading) (left left' : Option (List ℕ)) (reads reads' : ℕ)
-      → Prints outcome shown shown' left left' reads reads' w m f g status → Prints outcome shown shown' left left' reads reads' w w' f f' status'
+      → PrintsAlone outcome shown shown' left left' reads reads' w m f g status → PrintsAlone outcome shown shown' left left' reads reads' w w' f f' status'
   prints_on outcome shown shown' left left' reads reads' prints = record {
     apart = prints.apart;
     closed = closes_on outcome w m w' f g f' status status' kept ends prints.closed;
   }
 
   done_on : (command : Command) (shown shown' : List Reading) (left left' : Option (List ℕ)) (reads reads' : ℕ)
-      → IsDone command shown shown' left left' reads reads' w m f g status → IsDone command shown shown' left left' reads reads' w w' f f' status'
+      → ComesOfCommand command shown shown' left left' reads reads' w m f g status → ComesOfCommand command shown shown' left left' reads reads' w w' f f' status'
   done_on commands.Check shown shown' left left' reads reads' run = run_on _ shown shown' left left' reads reads' run
   done_on commands.Show shown shown' left left' reads reads' run = run_on _ shown shown' left left' reads reads' run
   done_on commands.Elements shown shown' left left' reads reads' run = run_on _ shown shown' left left' reads reads' run
@@ -55,7 +55,7 @@ module _ (w m w' : Option (List ℕ)) (f g f' : ℕ) (status status' : Status) (
     untaken = generated.untaken;
     untouched = generated.untouched;
   }
-  done_on commands.Settle shown shown' left left' reads reads' prints = prints_on settling shown shown' left left' reads reads' prints
+  done_on commands.Settle shown shown' left left' reads reads' prints = prints_on settle_outcome shown shown' left left' reads reads' prints
 
   answered_on : (asked : Option Invocation) (shown shown' : List Reading) (left left' : Option (List ℕ)) (reads reads' : ℕ)
       → AreAnswered asked shown shown' left left' reads reads' w m f g status → AreAnswered asked shown shown' left left' reads reads' w w' f f' status'
@@ -72,13 +72,13 @@ module _ (w m w' : Option (List ℕ)) (f g f' : ℕ) (status status' : Status) (
 module _ (shown shown' : List Reading) (left left' : Option (List ℕ)) (reads reads' : ℕ) (w w' : Option (List ℕ)) (f f' : ℕ) (status : Status)
     (other : status ≢ statuses.WriteFault) where
   -- no write failed, so none met a fault
-  done_quiet : (command : Command) → IsDone command shown shown' left left' reads reads' w w' f f' status → f' ≡ f
+  done_quiet : (command : Command) → ComesOfCommand command shown shown' left left' reads reads' w w' f f' status → f' ≡ f
   done_quiet commands.Check run = closes_faultless run.ending.outcome w w' f f' status run.closed other
   done_quiet commands.Show run = closes_faultless run.ending.outcome w w' f f' status run.closed other
   done_quiet commands.Elements run = closes_faultless run.ending.outcome w w' f f' status run.closed other
   done_quiet commands.Run run = closes_faultless run.ending.outcome w w' f f' status run.closed other
   done_quiet (commands.Gen number) generated = closes_faultless generated.run.ending.outcome w w' f f' status generated.run.closed other
-  done_quiet commands.Settle prints = closes_faultless settling w w' f f' status prints.closed other
+  done_quiet commands.Settle prints = closes_faultless settle_outcome w w' f f' status prints.closed other
 
   answered_quiet : (asked : Option Invocation) → AreAnswered asked shown shown' left left' reads reads' w w' f f' status → f' ≡ f
   answered_quiet None run = closes_faultless run.ending.outcome w w' f f' status run.closed other

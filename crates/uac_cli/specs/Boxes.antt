@@ -1,7 +1,7 @@
 -- One call of the program with meters of its own (profile).
 use Rattle.std.specs.Prelude.{ℕ, List, [], ◌∷◌, Option}
 use Rattle.uac_units.specs.Hearing.{Reading}
-use Rattle.uac_units.specs.declared.hearing.MeterKind.TheVariants.{Peak, Clipped, Sum}
+use Rattle.uac_units.specs.declared.meter.MeterKind.TheVariants.{Peak, Clipped, Sum}
 use Rattle.uac_words.specs.declared.commands.Invocation.{Invocation}
 use Rattle.uac_describe.specs.declared.status.Status.{Status}
 use Rattle.uac_cli.specs.Call.{IsCall}

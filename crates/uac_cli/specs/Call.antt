@@ -10,7 +10,7 @@ use Rattle.uac_describe.specs.declared.description.Description.TheVariants.{Chec
 use Rattle.uac_describe.specs.declared.status.Status.{Status}
 use Rattle.uac_describe.specs.Outcome.{Outcome, no_memory}
 use Rattle.uac_describe.specs.Closing.{Closes}
-use Rattle.uac_describe.specs.SettleLines.{settling}
+use Rattle.uac_describe.specs.SettleLines.{settle_outcome}
 use Rattle.uac_scripts.specs.ScriptRun.{IsRun}
 
 -- nothing of the source was taken, and the meters heard nothing
@@ -20,7 +20,7 @@ pub record IsApart (shown shown' : List Reading) (left left' : Option (List ℕ)
   pub read : reads' ≡ reads
 
 -- nothing was taken or heard, and this is what was printed
-pub record Prints (outcome : Outcome) (shown shown' : List Reading) (left left' : Option (List ℕ)) (reads reads' : ℕ)
+pub record PrintsAlone (outcome : Outcome) (shown shown' : List Reading) (left left' : Option (List ℕ)) (reads reads' : ℕ)
     (written written' : Option (List ℕ)) (writes writes' : ℕ) (status : Status) : Type 0 where
   pub apart : IsApart shown shown' left left' reads reads'
   pub closed : Closes outcome written written' writes writes' status
@@ -34,20 +34,21 @@ pub record IsGenerated (number : ℕ) (shown shown' : List Reading) (left left' 
   pub untouched : reads' ≡ reads
 
 -- what a command comes to
-abbrev pub IsDone : Command → List Reading → List Reading → Option (List ℕ) → Option (List ℕ) → ℕ → ℕ → Option (List ℕ) → Option (List ℕ)
+abbrev pub ComesOfCommand : Command → List Reading → List Reading → Option (List ℕ) → Option (List ℕ) → ℕ → ℕ → Option (List ℕ)
+    → Option (List ℕ)
     → ℕ → ℕ → Status → Type 0
-IsDone commands.Check shown shown' left left' reads reads' written written' writes writes' status =
+ComesOfCommand commands.Check shown shown' left left' reads reads' written written' writes writes' status =
     IsRun (Some (Describe Check)) shown shown' left left' reads reads' written written' writes writes' status
-IsDone commands.Show shown shown' left left' reads reads' written written' writes writes' status =
+ComesOfCommand commands.Show shown shown' left left' reads reads' written written' writes writes' status =
     IsRun (Some (Describe Show)) shown shown' left left' reads reads' written written' writes writes' status
-IsDone commands.Elements shown shown' left left' reads reads' written written' writes writes' status =
+ComesOfCommand commands.Elements shown shown' left left' reads reads' written written' writes writes' status =
     IsRun (Some (Describe Elements)) shown shown' left left' reads reads' written written' writes writes' status
-IsDone commands.Run shown shown' left left' reads reads' written written' writes writes' status =
+ComesOfCommand commands.Run shown shown' left left' reads reads' written written' writes writes' status =
     IsRun (Some Run) shown shown' left left' reads reads' written written' writes writes' status
-IsDone (commands.Gen number) shown shown' left left' reads reads' written written' writes writes' status =
+ComesOfCommand (commands.Gen number) shown shown' left left' reads reads' written written' writes writes' status =
     IsGenerated number shown shown' left left' reads reads' written written' writes writes' status
-IsDone commands.Settle shown shown' left left' reads reads' written written' writes writes' status =
-    Prints settling shown shown' left left' reads reads' written written' writes writes' status
+ComesOfCommand commands.Settle shown shown' left left' reads reads' written written' writes writes' status =
+    PrintsAlone settle_outcome shown shown' left left' reads reads' written written' writes writes' status
 
 -- what words come to: the command that they ask for is done, over either rack, and words that ask for none take nothing and are told how
 -- the program is used
@@ -56,14 +57,14 @@ abbrev pub AreAnswered : Option Invocation → List Reading → List Reading →
 AreAnswered None shown shown' left left' reads reads' written written' writes writes' status =
     IsRun None shown shown' left left' reads reads' written written' writes writes' status
 AreAnswered (Some words) shown shown' left left' reads reads' written written' writes writes' status =
-    IsDone words.command shown shown' left left' reads reads' written written' writes writes' status
+    ComesOfCommand words.command shown shown' left left' reads reads' written written' writes writes' status
 
 -- a call of the program: words come to that, or there was no memory to read them
 abbrev pub IsCall : Option Invocation → List Reading → List Reading → Option (List ℕ) → Option (List ℕ) → ℕ → ℕ → Option (List ℕ)
     → Option (List ℕ) → ℕ → ℕ → Status → Type 0
 IsCall words shown shown' left left' reads reads' written written' writes writes' status =
     AreAnswered words shown shown' left left' reads reads' written written' writes writes' status
-    ⊎ Prints no_memory shown shown' left left' reads reads' written written' writes writes' status
+    ⊎ PrintsAlone no_memory shown shown' left left' reads reads' written written' writes writes' status
 
 -- the command reads the source to its end
 abbrev pub reads_all : Command → Bool

@@ -7,12 +7,12 @@ use Rattle.uac_words.specs.declared.commands.Command.{Command}
 use Rattle.uac_describe.specs.declared.status.Status.{Status}
 use Rattle.uac_describe.specs.declared.status.Status.TheVariants as statuses
 use Rattle.uac_describe.specs.Closing.{IsFaultless}
-use Rattle.uac_cli.specs.Call.{IsDone, reads_all}
+use Rattle.uac_cli.specs.Call.{ComesOfCommand, reads_all}
 
 -- the command was done, each fault of the outside has its cause, and where none is told none was met; and what reads all did so
 pub record Performs (command : Command) (shown shown' : List Reading) (left left' : Option (List ℕ)) (reads reads' : ℕ)
     (written written' : Option (List ℕ)) (writes writes' : ℕ) (status : Status) : Type 0 where
-  pub done : IsDone command shown shown' left left' reads reads' written written' writes writes' status
+  pub done : ComesOfCommand command shown shown' left left' reads reads' written written' writes writes' status
   pub read_fault : status ≡ statuses.ReadFault → Rose reads reads'
   pub write_fault : status ≡ statuses.WriteFault → Rose writes writes'
   pub faultless : IsFaultless reads reads' writes writes' status

@@ -6,7 +6,7 @@ ghost use Rattle.uac_units.specs.Fitting.{IsFitted};
 ghost use Rattle.uac_words.specs.Plain.{plainly};
 ghost use Rattle.uac_cli.specs.Boxes.{IsFreshCall, fresh_readings};
 ghost use Rattle.uac_cli.specs.Call.{ask_to_read};
-ghost use Rattle.uac_cli.specs.Completeness.{IsComplete};
+ghost use Rattle.uac_cli.specs.Completeness.{IsCompleteCall};
 ghost use Rattle.uac_describe.specs.Closing.{IsFaultless};
 
 use crate::top::{Racks, uac_main};
@@ -41,7 +41,7 @@ pub fn run_in_boxes<S: Source, K: Sink>(
         → IsAtEnd (S.left source.new)) }
 
     // Where no read and no write failed and there was memory, status and text are what the whole input comes to, to its end.
-    ensures complete { IfOk result (λ status. IsComplete (plainly (map (λ word. string_bytes word) words.now)) fresh_readings
+    ensures complete { IfOk result (λ status. IsCompleteCall (plainly (map (λ word. string_bytes word) words.now)) fresh_readings
         (S.left source.old) (S.faults source.old) (S.faults source.new)
         (K.written sink.old) (K.written sink.new) (K.faults sink.old) (K.faults sink.new) status) }
 
@@ -88,7 +88,7 @@ fn run_with_racks<S: Source, K: Sink>(
         (K.faults sink.old) (K.faults sink.new) status) }
     ensures ok { IfOk result (λ status. status ≡ Status.Ok → ask_to_read (plainly (map (λ word. string_bytes word) words.now)) ≡ true
         → IsAtEnd (S.left source.new)) }
-    ensures complete { IfOk result (λ status. IsComplete (plainly (map (λ word. string_bytes word) words.now)) fresh_readings
+    ensures complete { IfOk result (λ status. IsCompleteCall (plainly (map (λ word. string_bytes word) words.now)) fresh_readings
         (S.left source.old) (S.faults source.old) (S.faults source.new)
         (K.written sink.old) (K.written sink.new) (K.faults sink.old) (K.faults sink.new) status) }
     ensures handed_on { IfOk result (λ status. status ≢ Status.WriteFault → K.waiting sink.new ≡ 0) }

@@ -4,7 +4,7 @@ ghost use Rattle.std.specs.Io.KnownBytes.{IsAtEnd};
 ghost use Rattle.uac_edges.specs.Faults.{Rose};
 ghost use Rattle.uac_cli.specs.Boxes.{IsFreshCall, fresh_readings};
 ghost use Rattle.uac_cli.specs.Call.{ask_to_read};
-ghost use Rattle.uac_cli.specs.Completeness.{IsComplete};
+ghost use Rattle.uac_cli.specs.Completeness.{IsCompleteCall};
 ghost use Rattle.uac_describe.specs.Closing.{IsFaultless};
 ghost use Rattle.uac_cli.specs.Program.{asked_by};
 
@@ -37,7 +37,7 @@ pub fn run_program<S: Source, K: Sink>(
     ensures ok { result ≡ Status.Ok → ask_to_read (asked_by args) ≡ true → IsAtEnd (S.left source.new) }
 
     // Where no read and no write failed and there was memory, status and text are what the whole input comes to, to its end.
-    ensures complete { IsComplete (asked_by args) fresh_readings (S.left source.old) (S.faults source.old) (S.faults source.new)
+    ensures complete { IsCompleteCall (asked_by args) fresh_readings (S.left source.old) (S.faults source.old) (S.faults source.new)
         (K.written sink.old) (K.written sink.new) (K.faults sink.old) (K.faults sink.new) result }
 
     // Where no failed write is told, all that was written was handed on.

@@ -82,7 +82,7 @@ fn strings(alloc: Global, words: &[&str]) -> Result<Vec<String>, AllocError> {
 }
 
 /// The status with which the program ends, called with these words.
-fn ended<S: Source>(
+fn end_of<S: Source>(
     alloc: Global,
     words: &[&str],
     source: &mut S,
@@ -121,7 +121,7 @@ fn expect<R: Abort, S: Source>(
     requires { 0 < cut }
 {
     let mut sink = sink_in_memory(alloc, cut, failing)?;
-    let got = ended(alloc, words, source, &mut sink);
+    let got = end_of(alloc, words, source, &mut sink);
     judge(rt, got, &sink, text, status)
 }
 
@@ -420,7 +420,7 @@ fn sink_fails_at_each_call(rt: HostRuntime) -> Result<(), Fail> {
 }
 
 /// How many bytes stand after a script of which so many were taken.
-fn printed(taken: usize) -> usize {
+fn printed_length(taken: usize) -> usize {
     if taken < 75 {
         0
     } else if taken < SCRIPT.len() {
@@ -447,7 +447,9 @@ fn judge_what_follows(
     rest: &[u8],
     status: Status,
 ) -> Result<(), AllocError> {
-    let front = TRANSCRIPT.get(..printed(taken)).unwrap_or(TRANSCRIPT);
+    let front = TRANSCRIPT
+        .get(..printed_length(taken))
+        .unwrap_or(TRANSCRIPT);
     assert_eq!(rt; got?, status, "after {taken} bytes");
     assert!(rt;
         is_both(sink.bytes_written(), front, rest),
@@ -465,7 +467,7 @@ fn run_what_follows<R: Abort, S: Source>(
     status: Status,
 ) -> Result<(), AllocError> {
     let mut sink = sink_in_memory(alloc, 1, &[])?;
-    let got = ended(alloc, &["run"], source, &mut sink);
+    let got = end_of(alloc, &["run"], source, &mut sink);
     judge_what_follows(rt, got, &sink, taken, rest, status)
 }
 
@@ -510,7 +512,7 @@ impl<U: Unit> Unit for Counting<U> {
     }
 }
 
-fn counted<U: Unit>(unit: U, renders: &Rc<Cell<u64>>) -> Result<Counting<U>, AllocError>
+fn counting_unit<U: Unit>(unit: U, renders: &Rc<Cell<u64>>) -> Result<Counting<U>, AllocError>
     ensures { IfOk result (λ c. U.kind_of c.unit ≡ U.kind_of unit) }
 {
     Ok(Counting {
@@ -530,16 +532,16 @@ fn counting_racks(
 {
     Ok(Racks {
         plain: Rack::new(
-            Box::new(alloc, counted(PlainMixer, plain)?)?,
-            Box::new(alloc, counted(PlainSelector, plain)?)?,
-            Box::new(alloc, counted(PlainFeature, plain)?)?,
-            Box::new(alloc, counted(PlainEffect, plain)?)?,
+            Box::new(alloc, counting_unit(PlainMixer, plain)?)?,
+            Box::new(alloc, counting_unit(PlainSelector, plain)?)?,
+            Box::new(alloc, counting_unit(PlainFeature, plain)?)?,
+            Box::new(alloc, counting_unit(PlainEffect, plain)?)?,
         ),
         lanes: Rack::new(
-            Box::new(alloc, counted(LaneMixer, lanes)?)?,
-            Box::new(alloc, counted(LaneSelector, lanes)?)?,
-            Box::new(alloc, counted(LaneFeature, lanes)?)?,
-            Box::new(alloc, counted(LaneEffect, lanes)?)?,
+            Box::new(alloc, counting_unit(LaneMixer, lanes)?)?,
+            Box::new(alloc, counting_unit(LaneSelector, lanes)?)?,
+            Box::new(alloc, counting_unit(LaneFeature, lanes)?)?,
+            Box::new(alloc, counting_unit(LaneEffect, lanes)?)?,
         ),
     })
 }

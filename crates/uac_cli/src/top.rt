@@ -3,10 +3,10 @@ ghost use Rattle.std.specs.Prelude.{◌≡◌, ◌≢◌, ℕ, true, List, Optio
 ghost use Rattle.std.specs.Io.KnownBytes.{IsAtEnd};
 ghost use Rattle.uac_edges.specs.Faults.{Rose};
 ghost use Rattle.uac_units.specs.Fitting.{IsFitted};
-ghost use Rattle.uac_units.specs.Panel.{readings};
+ghost use Rattle.uac_units.specs.MeterReadings.{readings};
 ghost use Rattle.uac_words.specs.Plain.{plainly};
 ghost use Rattle.uac_cli.specs.Call.{IsCall, IsGenerated, ask_to_read};
-ghost use Rattle.uac_cli.specs.Completeness.{IsComplete};
+ghost use Rattle.uac_cli.specs.Completeness.{IsCompleteCall};
 ghost use Rattle.uac_cli.specs.Performing.{Performs};
 ghost use Rattle.uac_describe.specs.Closing.{IsFaultless};
 
@@ -62,7 +62,7 @@ pub fn uac_main<S: Source, K: Sink>(
         → IsAtEnd (S.left source.new) }
 
     // Where no read and no write failed and there was memory, status and text are what the whole input comes to, to its end.
-    ensures complete { IsComplete (plainly (map (λ word. string_bytes word) words.now))
+    ensures complete { IsCompleteCall (plainly (map (λ word. string_bytes word) words.now))
         (readings (λ v x. (⟦<dyn Meter as Meter>⟧ v).reading_of x) meters.old)
         (S.left source.old) (S.faults source.old) (S.faults source.new)
         (K.written sink.old) (K.written sink.new) (K.faults sink.old) (K.faults sink.new) result }

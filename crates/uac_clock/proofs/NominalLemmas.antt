@@ -3,7 +3,7 @@ use Rattle.std.proofs.Common.{◌≡◌, ℕ, ◌==◌, ◌||◌, if◌then◌el
 use Rattle.std.proofs.lemmas.Bool.{eqb-true, false≢true}
 use Rattle.std.specs.List.{list_any, AllByRecursion}
 use Rattle.uac_clock.specs.declared.values.Nominal.{Nominal}
-use Rattle.uac_clock.specs.Nominal.{twelve_rates, is_listed, values_of, nominal_of, IsNominal, HasRoom}
+use Rattle.uac_clock.specs.Nominal.{twelve_rates, is_listed, values_of, nominal_of, IsNominal, StaysBetweenWholes}
 
 -- what holds of each of a list holds of what the list has
 pub each_listed : (P : ℕ → Type 0) (xs : List ℕ) (r : ℕ) → list_any (λ x. x == r) xs ≡ true → AllByRecursion P xs → P r
@@ -14,7 +14,7 @@ each_listed P (x ∷ xs) r listed each = from (x == r) refl listed (λ h. each_l
   from false other h others = others h
 
 -- each of the twelve leaves room
-twelve_have_room : AllByRecursion (λ r. HasRoom (values_of r)) twelve_rates
+twelve_have_room : AllByRecursion (λ r. StaysBetweenWholes (values_of r)) twelve_rates
 unfolding values_of
 twelve_have_room = search rules
 
@@ -27,10 +27,10 @@ nominal_is_listed hertz values h = from (is_listed hertz) refl h where
   from false other e = cc
 
 -- the nominal values of a rate leave room
-pub has_room : (values : Nominal) → IsNominal values → HasRoom values
+pub has_room : (values : Nominal) → IsNominal values → StaysBetweenWholes values
 has_room values h =
     let listed = nominal_is_listed h.0 values h.1 in
-    subst HasRoom listed.1 (each_listed (λ r. HasRoom (values_of r)) twelve_rates h.0 listed.0 twelve_have_room)
+    subst StaysBetweenWholes listed.1 (each_listed (λ r. StaysBetweenWholes (values_of r)) twelve_rates h.0 listed.0 twelve_have_room)
 
 -- a rate that is not listed has none, and one that is has its values
 pub nominal_of-unlisted : (hertz : ℕ) → is_listed hertz ≡ false → nominal_of hertz ≡ None

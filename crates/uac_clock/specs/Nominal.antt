@@ -34,7 +34,7 @@ step_of values (pos ppm) = values.f + values.f * ppm / 1000000
 step_of values (negsuc ppm) = values.f - values.f * suc ppm / 1000000
 
 -- a clock that is off by a thousandth stays between the whole numbers, which lie close
-pub record HasRoom (values : Nominal) : Type 0 where
+pub record StaysBetweenWholes (values : Nominal) : Type 0 where
   pub below : values.lo * 65536 + values.e < values.f
   pub above : values.f + values.e < values.hi * 65536
   pub apart : values.hi ≤ values.lo + 2

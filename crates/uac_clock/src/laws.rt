@@ -1,7 +1,7 @@
 // What holds of rates and their nominal values.
 ghost use Rattle.std.specs.Prelude.{◌≡◌};
 ghost use Rattle.uac_clock.specs.declared.values.Nominal.{Nominal};
-ghost use Rattle.uac_clock.specs.Nominal.{twelve_rates, IsNominal, HasRoom};
+ghost use Rattle.uac_clock.specs.Nominal.{twelve_rates, IsNominal, StaysBetweenWholes};
 
 use crate::rates::RATES;
 
@@ -9,5 +9,5 @@ use crate::rates::RATES;
 /// whole number of frames in a packet.
 pub fn nominal_values_leave_room()
     ensures rates { RATES ≡ twelve_rates }
-    ensures room { (nominal : Nominal) → IsNominal nominal → HasRoom nominal }
+    ensures room { (nominal : Nominal) → IsNominal nominal → StaysBetweenWholes nominal }
 {}

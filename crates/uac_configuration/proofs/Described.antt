@@ -10,7 +10,7 @@ use Rattle.uac_sentence.specs.Grammar.{first_fault}
 use Rattle.uac_sentence.specs.Letter.{context_after}
 use Rattle.uac_sentence.specs.Sentence.{EachIn, SpellsItself, spellings, IsSentence}
 use Rattle.uac_sentence.proofs.CuttingLemmas.{chop_piece, chop_rest}
-use Rattle.uac_sentence.proofs.SentenceLaw.{piece_of}
+use Rattle.uac_sentence.proofs.SentenceLemmas.{piece_of}
 use Rattle.uac_grammar.specs.Stop.{first_stop}
 use Rattle.uac_grammar.specs.declared.fault.ReadStop.{ReadStop}
 use Rattle.uac_grammar.specs.declared.fault.ReadStop.TheVariants as reads
@@ -19,7 +19,7 @@ use Rattle.uac_entities.specs.declared.entity.Entity.{Entity}
 use Rattle.uac_entities.specs.declared.stream.StreamInterface.{StreamInterface}
 use Rattle.uac_topology_rules.specs.declared.fault.TopologyFault.{TopologyFault}
 use Rattle.uac_topology.specs.Function.{FunctionFields}
-use Rattle.uac_topology.specs.Topology.{first_broken, IsSound, IsFunctionOf}
+use Rattle.uac_topology.specs.Topology.{first_fault_of, IsSound, IsFunctionOf}
 use Rattle.uac_configuration.specs.declared.describing.SoundDescriptor.{SoundDescriptor}
 use Rattle.uac_configuration.specs.declared.fault.DescriptorFault.{DescriptorFault}
 use Rattle.uac_configuration.specs.declared.fault.DescriptorFault.TheVariants as faults
@@ -70,7 +70,7 @@ pub described_with : (bytes : List ℕ) (blocks lent again : List Block) (functi
 described_with bytes blocks lent again function (Ok d) sentence none same back sound is other =
     let all : blocks_of bytes ≡ lent = blocks_of_sentence bytes blocks sentence ∙ sym same in (
       none,
-      ap first_broken all ∙ sound.0,
+      ap first_fault_of all ∙ sound.0,
       is.0 ∙ function_is function lent sound.1 ∙ ap function_of (sym all),
       is.1 ∙ ap (λ (bs : List Block). configuration_of (flat_map spelling bs)) back ∙ ap configuration_of (sym sentence.spelt),
     )
@@ -79,9 +79,9 @@ described_with bytes blocks lent again function (Err fault) sentence none same b
 
 -- or it breaks a rule
 pub described_broken : (bytes : List ℕ) (blocks lent : List Block) (fault : TopologyFault) → IsSentence bytes blocks → first_fault bytes ≡ None → lent ≡ blocks
-    → first_broken lent ≡ Some fault → Describes bytes (Err (faults.Topology fault))
+    → first_fault_of lent ≡ Some fault → Describes bytes (Err (faults.Topology fault))
 described_broken bytes blocks lent fault sentence none same broken =
-    (none, ap first_broken (blocks_of_sentence bytes blocks sentence ∙ sym same) ∙ broken)
+    (none, ap first_fault_of (blocks_of_sentence bytes blocks sentence ∙ sym same) ∙ broken)
 
 -- or the bytes are refused
 stopped_there : (bytes : List ℕ) (stop : ReadStop) → (stop ≢ reads.NoMemory → first_stop bytes ≡ Some stop) → Describes bytes (Err (fault_of stop))

@@ -8,7 +8,7 @@ use Rattle.uac_topology_rules.specs.declared.fault.TopologyFault.{TopologyFault}
 use Rattle.uac_topology.specs.declared.soundness.CheckStop.{CheckStop}
 use Rattle.uac_topology.specs.declared.soundness.CheckStop.TheVariants as stops
 use Rattle.uac_topology.specs.Function.{FunctionFields}
-use Rattle.uac_topology.specs.Topology.{first_broken, IsSound, IsFunctionOf, IsStopAt}
+use Rattle.uac_topology.specs.Topology.{first_fault_of, IsSound, IsFunctionOf, IsStopAt}
 use Rattle.uac_describe.specs.declared.description.Description.{Description}
 use Rattle.uac_describe.specs.declared.description.Description.TheVariants.{Elements}
 use Rattle.uac_describe.specs.declared.reading.SourceEnd.TheVariants.{Whole, Stopped, Failed}
@@ -17,13 +17,13 @@ use Rattle.uac_describe.specs.declared.status.Status.TheVariants as statuses
 use Rattle.uac_describe.specs.Outcome.{at_end, read_failed, stopped, Outcome, no_memory, read_fault, refusal, sound, shows_fault, fails, ends_in_fault, is_sound, is_broken, is_read, unsound}
 use Rattle.uac_describe.specs.SourceReading.{Reads}
 use Rattle.uac_describe.specs.Closing.{Closes}
-use Rattle.uac_describe.specs.Answered.{Judges, Refuses, RefusesFunction, IsAnswered}
+use Rattle.uac_describe.specs.Answered.{Judges, PrintsRefusal, RefusesFunction, IsDescribed}
 
 module _ (a b : Option (List ℕ)) (r r' : ℕ) (w w' : Option (List ℕ)) (f f' : ℕ) (status : Status) where
   -- the verdict on the blocks that were read was written
   pub judged_run : (description : Description) (blocks : _) (lent : List Block) → Reads a b r r' (Whole blocks) → r' ≡ r → lent ≡ blocks.items
-      → Judges description lent w w' f f' status → IsAnswered description a b r r' w w' f f' status
-  judged_run description blocks lent reads still same judges = elim judges.meant as (λ _. IsAnswered description a b r r' w w' f f' status) [
+      → Judges description lent w w' f f' status → IsDescribed description a b r r' w w' f f' status
+  judged_run description blocks lent reads still same judges = elim judges.meant as (λ _. IsDescribed description a b r r' w w' f f' status) [
     | inl verdict ↦ record {
       taken = reads.taken;
       end = at_end;
@@ -47,7 +47,7 @@ module _ (a b : Option (List ℕ)) (r r' : ℕ) (w w' : Option (List ℕ)) (f f'
   ]
 
   -- a read failed
-  pub failed_run : (description : Description) → Reads a b r r' Failed → Closes read_fault w w' f f' status → IsAnswered description a b r r' w w' f f' status
+  pub failed_run : (description : Description) → Reads a b r r' Failed → Closes read_fault w w' f f' status → IsDescribed description a b r r' w w' f f' status
   failed_run description reads closed = record {
     taken = reads.taken;
     end = read_failed;
@@ -60,8 +60,8 @@ module _ (a b : Option (List ℕ)) (r r' : ℕ) (w w' : Option (List ℕ)) (f f'
   }
 
   -- a descriptor was refused
-  pub refused_run : (description : Description) (stop : ReadStop) → Reads a b r r' (Stopped stop) → r' ≡ r → Refuses stop w w' f f' status
-      → IsAnswered description a b r r' w w' f f' status
+  pub refused_run : (description : Description) (stop : ReadStop) → Reads a b r r' (Stopped stop) → r' ≡ r → PrintsRefusal stop w w' f f' status
+      → IsDescribed description a b r r' w w' f f' status
   refused_run description NoMemory reads still closed = record {
     taken = reads.taken;
     end = stopped;
@@ -72,7 +72,7 @@ module _ (a b : Option (List ℕ)) (r r' : ℕ) (w w' : Option (List ℕ)) (f f'
     meant = inr refl;
     closed = closed;
   }
-  refused_run description (Fault fault) reads still closed = elim reads.comes as (λ _. IsAnswered description a b r r' w w' f f' status) [
+  refused_run description (Fault fault) reads still closed = elim reads.comes as (λ _. IsDescribed description a b r r' w w' f f' status) [
     | inl shown ↦ record {
       taken = reads.taken;
       end = stopped;
@@ -103,12 +103,12 @@ line_of_outcome o text w w' f f' status line closed =
 
 -- a descriptor was refused by the grammar
 pub refuses_fault : (stop : ReadStop) (fault : _) (text : List ℕ) (w w' : Option (List ℕ)) (f f' : ℕ) (status : Status) → stop ≡ Fault fault → text ≡ (refusal fault).text
-    → Closes (record { text = text; status = statuses.Descriptor }) w w' f f' status → Refuses stop w w' f f' status
+    → Closes (record { text = text; status = statuses.Descriptor }) w w' f f' status → PrintsRefusal stop w w' f f' status
 refuses_fault stop fault text w w' f f' status is line closed =
-    subst (λ (s : ReadStop). Refuses s w w' f f' status) (sym is) (line_of_outcome (refusal fault) text w w' f f' status line closed)
+    subst (λ (s : ReadStop). PrintsRefusal s w w' f f' status) (sym is) (line_of_outcome (refusal fault) text w w' f f' status line closed)
 
-pub refuses_memory : (stop : ReadStop) (w w' : Option (List ℕ)) (f f' : ℕ) (status : Status) → stop ≡ NoMemory → Closes no_memory w w' f f' status → Refuses stop w w' f f' status
-refuses_memory stop w w' f f' status is closed = subst (λ (s : ReadStop). Refuses s w w' f f' status) (sym is) closed
+pub refuses_memory : (stop : ReadStop) (w w' : Option (List ℕ)) (f f' : ℕ) (status : Status) → stop ≡ NoMemory → Closes no_memory w w' f f' status → PrintsRefusal stop w w' f f' status
+refuses_memory stop w w' f f' status is closed = subst (λ (s : ReadStop). PrintsRefusal s w w' f f' status) (sym is) closed
 
 -- a function was refused by the topology
 pub refuses_function : (stop : CheckStop) (fault : TopologyFault) (text : List ℕ) (w w' : Option (List ℕ)) (f f' : ℕ) (status : Status) → stop ≡ stops.Fault fault → text ≡ (unsound fault).text
@@ -129,7 +129,7 @@ judges_sound description blocks function w w' f f' status holds (inr closed) = r
 
 -- it was refused
 pub judges_broken : (description : Description) (blocks : List Block) (stop : CheckStop) (w w' : Option (List ℕ)) (f f' : ℕ) (status : Status)
-    → IsStopAt stop (first_broken blocks) → RefusesFunction stop w w' f f' status → Judges description blocks w w' f f' status
+    → IsStopAt stop (first_fault_of blocks) → RefusesFunction stop w w' f f' status → Judges description blocks w w' f f' status
 judges_broken description blocks (stops.Fault fault) w w' f f' status tells closed = record { outcome = unsound fault; meant = inl (is_broken fault tells); closed = closed }
 judges_broken description blocks stops.NoMemory w w' f f' status tells closed = record { outcome = no_memory; meant = inr refl; closed = closed }
 
@@ -152,6 +152,6 @@ pub told_status : (o : Outcome) (w w' : Option (List ℕ)) (f f' : ℕ) (status 
 told_status o w w' f f' status (inl all) unlike other = unlike all.0
 told_status o w w' f f' status (inr cut) unlike other = other cut.0
 
-pub refuses_faultless : (stop : ReadStop) (w w' : Option (List ℕ)) (f f' : ℕ) (status : Status) → Refuses stop w w' f f' status → status ≢ statuses.WriteFault → f' ≡ f
+pub refuses_faultless : (stop : ReadStop) (w w' : Option (List ℕ)) (f f' : ℕ) (status : Status) → PrintsRefusal stop w w' f f' status → status ≢ statuses.WriteFault → f' ≡ f
 refuses_faultless (Fault fault) w w' f f' status closed = closes_faultless (refusal fault) w w' f f' status closed
 refuses_faultless NoMemory w w' f f' status closed = closes_faultless no_memory w w' f f' status closed

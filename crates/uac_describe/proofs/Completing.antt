@@ -7,15 +7,15 @@ use Rattle.uac_descriptor.specs.declared.block.Block.{Block}
 use Rattle.uac_sentence.specs.declared.faults.GrammarFault.{GrammarFault}
 use Rattle.uac_sentence.specs.Grammar.{first_fault}
 use Rattle.uac_sentence.specs.Sentence.{IsSentence}
-use Rattle.uac_sentence.proofs.SentenceLaw.{sentence_none, sentence_unique}
+use Rattle.uac_sentence.proofs.SentenceLemmas.{sentence_none, sentence_unique}
 use Rattle.uac_grammar.specs.declared.fault.ReadStop.TheVariants.{Fault}
 use Rattle.uac_grammar.specs.Stop.{stop_at}
 use Rattle.uac_grammar.proofs.Readings.{shown_stop_first, shown_stop_stays}
 use Rattle.uac_grammar.proofs.StopLemmas.{stop_at-Fault}
 use Rattle.uac_configuration.proofs.Described.{function_is}
 use Rattle.uac_describe.specs.declared.description.Description.{Description}
-use Rattle.uac_describe.specs.Closing.{HasEnded, Rests}
-use Rattle.uac_describe.specs.Outcome.{End, at_end, Outcome, refusal, sound, unsound, IsVerdict, is_sound, is_broken, Answers, shows_fault, fails, ends_in_fault, is_read}
+use Rattle.uac_describe.specs.Closing.{HasEnded, HasNoFault}
+use Rattle.uac_describe.specs.Outcome.{End, at_end, Outcome, refusal, sound, unsound, IsTopologyVerdict, is_sound, is_broken, IsOutcomeOf, shows_fault, fails, ends_in_fault, is_read}
 
 -- ---- what was taken
 
@@ -40,7 +40,7 @@ front_of (Some all) (Some rest) bytes taken is consumed =
 
 -- what is said of what was taken is said of all the bytes
 said_of_all : (description : Description) (bytes taken : List ℕ) (left : Option (List ℕ)) (reads reads' : ℕ) (end : End) (outcome : Outcome)
-    → IsFront bytes taken left → Rests reads reads' → HasEnded end left reads reads' → Answers description taken end outcome → Answers description bytes at_end outcome
+    → IsFront bytes taken left → HasNoFault reads reads' → HasEnded end left reads reads' → IsOutcomeOf description taken end outcome → IsOutcomeOf description bytes at_end outcome
 said_of_all description bytes taken left reads reads' end outcome front rests ended (shows_fault same fault shown) =
     let stop = shown_stop_first (taken ++ front.rest) (Fault fault) (shown_stop_stays taken front.rest (Fault fault) (ap stop_at shown)) in
     ends_in_fault fault (ap first_fault front.parts ∙ stop_at-Fault (first_fault (taken ++ front.rest)) fault stop)
@@ -53,9 +53,9 @@ said_of_all description bytes taken left reads reads' end outcome front rests en
 -- by the first fault of all the bytes, or by their blocks
 data IsSaid (description : Description) (bytes : List ℕ) (outcome : Outcome) : Type 0 where
   at_fault : (fault : GrammarFault) → first_fault bytes ≡ Some fault → outcome ≡ refusal fault → IsSaid description bytes outcome
-  at_blocks : (blocks : List Block) → IsSentence bytes blocks → IsVerdict description blocks outcome → IsSaid description bytes outcome
+  at_blocks : (blocks : List Block) → IsSentence bytes blocks → IsTopologyVerdict description blocks outcome → IsSaid description bytes outcome
 
-said_by : (description : Description) (bytes : List ℕ) (end : End) (outcome : Outcome) → end ≡ at_end → Answers description bytes end outcome → IsSaid description bytes outcome
+said_by : (description : Description) (bytes : List ℕ) (end : End) (outcome : Outcome) → end ≡ at_end → IsOutcomeOf description bytes end outcome → IsSaid description bytes outcome
 said_by description bytes end outcome last (shows_fault same fault shown) =
     at_fault fault (stop_at-Fault (first_fault bytes) fault (shown_stop_first bytes (Fault fault) (ap stop_at shown))) refl
 said_by description bytes end outcome last (fails none) = absurd (cc)
@@ -63,7 +63,7 @@ said_by description bytes end outcome last (ends_in_fault fault first) = at_faul
 said_by description bytes end outcome last (is_read blocks told sentence verdict) = at_blocks blocks sentence verdict
 
 -- one thing is said of blocks
-one_verdict : (description : Description) (blocks : List Block) (one other : Outcome) → IsVerdict description blocks one → IsVerdict description blocks other → one ≡ other
+one_verdict : (description : Description) (blocks : List Block) (one other : Outcome) → IsTopologyVerdict description blocks one → IsTopologyVerdict description blocks other → one ≡ other
 one_verdict description blocks one other (is_sound f none is) (is_sound g none' is') =
     ap (sound description blocks) (function_is f blocks is ∙ sym (function_is g blocks is'))
 one_verdict description blocks one other (is_sound f none is) (is_broken fault first) = absurd (let both : None ≡ Some fault = sym none ∙ first in cc)
@@ -81,12 +81,12 @@ one_said description bytes one other are (at_blocks blocks sentence verdict) (at
     absurd (let both : None ≡ Some fault = sym (sentence_none bytes blocks are sentence) ∙ first in cc)
 one_said description bytes one other are (at_blocks blocks sentence verdict) (at_blocks blocks' sentence' verdict') =
     one_verdict description blocks one other verdict
-    (subst (λ (bs : List Block). IsVerdict description bs other) (sentence_unique bytes blocks' blocks sentence' sentence) verdict')
+    (subst (λ (bs : List Block). IsTopologyVerdict description bs other) (sentence_unique bytes blocks' blocks sentence' sentence) verdict')
 
 -- what is said of what was taken is what is said of all the bytes
 pub said_once : (description : Description) (bytes taken : List ℕ) (left left' : Option (List ℕ)) (reads reads' : ℕ) (end : End) (outcome all : Outcome)
-    → left ≡ Some bytes → Consumes left left' taken → Rests reads reads' → HasEnded end left' reads reads' → Answers description taken end outcome
-    → AreBytes bytes → Answers description bytes at_end all → outcome ≡ all
+    → left ≡ Some bytes → Consumes left left' taken → HasNoFault reads reads' → HasEnded end left' reads reads' → IsOutcomeOf description taken end outcome
+    → AreBytes bytes → IsOutcomeOf description bytes at_end all → outcome ≡ all
 said_once description bytes taken left left' reads reads' end outcome all is consumed rests ended answers are whole =
     one_said description bytes outcome all are
     (said_by description bytes at_end outcome refl

@@ -12,7 +12,7 @@ use Rattle.uac_describe.specs.declared.reading.SourceEnd.TheVariants.{Whole, Sto
 use Rattle.uac_sentence.specs.Cutting.{chop, chop_within}
 use Rattle.uac_sentence.specs.Fault.{faults_from}
 use Rattle.uac_sentence.specs.Grammar.{first_fault, grammar, rule_at_end, start}
-use Rattle.uac_describe.specs.SourceReading.{piece_size, StopsThere, Comes, Reads, Finishes}
+use Rattle.uac_describe.specs.SourceReading.{descriptor_piece, StopsThere, ComesOfSource, Reads, Finishes}
 use Rattle.uac_edges.proofs.Consuming.{Consumes-Consumes}
 
 -- no bytes show nothing: their fault is that the configuration is missing
@@ -26,7 +26,7 @@ quiet_so_far taken quiet = record { front = taken; piece = []; parts = sym (appe
 
 -- A reader that was going on stopped at a piece: its fault is that of the bytes, or there was no memory.
 pub stopped_at : (a b c : Option (List ℕ)) (before after : ℕ) (taken piece : List ℕ) (stop : ReadStop) (told : Option ReadStop)
-    → Consumes a b taken → Consumes b c piece → shown_fault taken ≡ None → length piece ≤ piece_size → told ≡ Some stop
+    → Consumes a b taken → Consumes b c piece → shown_fault taken ≡ None → length piece ≤ descriptor_piece → told ≡ Some stop
     → (told ≢ Some NoMemory → told ≡ shown_stop (taken ++ piece))
     → Reads a c before after (Stopped stop)
 stopped_at a b c before after taken piece NoMemory told p q quiet short e shown = record {
@@ -69,7 +69,7 @@ ended_by a b c before after taken into n reading p q zero some quiet finishes =
       comes = came taken c before after reading (q.1 zero some) finishes;
     }
   where
-    came : (taken : List ℕ) (c : Option (List ℕ)) (before after : ℕ) (reading : SourceEnd) → IsAtEnd c → Finishes taken reading → Comes reading taken c before after
+    came : (taken : List ℕ) (c : Option (List ℕ)) (before after : ℕ) (reading : SourceEnd) → IsAtEnd c → Finishes taken reading → ComesOfSource reading taken c before after
     came taken c before after (Whole blocks) end f = (end, f)
     came taken c before after (Stopped (Fault fault)) end f = inr (end, f)
     came taken c before after (Stopped NoMemory) end f = tt

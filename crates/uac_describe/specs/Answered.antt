@@ -9,11 +9,11 @@ use Rattle.uac_topology.specs.declared.soundness.CheckStop.TheVariants as check
 use Rattle.uac_describe.specs.declared.description.Description.{Description}
 use Rattle.uac_describe.specs.declared.status.Status.{Status}
 use Rattle.uac_describe.specs.Closing.{Closes, HasEnded}
-use Rattle.uac_describe.specs.Outcome.{Answers, End, IsVerdict, Outcome, no_memory, refusal, unsound}
+use Rattle.uac_describe.specs.Outcome.{IsOutcomeOf, End, IsTopologyVerdict, Outcome, no_memory, refusal, unsound}
 use Rattle.uac_describe.specs.SourceReading.{StopsThere}
 
 -- The bytes that were taken, why no more were, and what is said of them; or memory was wanted.
-pub record IsAnswered (description : Description) (left left' : Option (List ℕ)) (reads reads' : ℕ) (written written' : Option (List ℕ))
+pub record IsDescribed (description : Description) (left left' : Option (List ℕ)) (reads reads' : ℕ) (written written' : Option (List ℕ))
     (writes writes' : ℕ) (status : Status) : Type 0 where
   pub taken : List ℕ
   pub end : End
@@ -21,13 +21,13 @@ pub record IsAnswered (description : Description) (left left' : Option (List ℕ
   pub consumed : Consumes left left' taken
   pub ended : HasEnded end left' reads reads'
   pub prompt : StopsThere taken
-  pub meant : Answers description taken end outcome ⊎ (outcome ≡ no_memory)
+  pub meant : IsOutcomeOf description taken end outcome ⊎ (outcome ≡ no_memory)
   pub closed : Closes outcome written written' writes writes' status
 
 -- what is printed of a descriptor that is refused, or for which there was no memory
-abbrev pub Refuses : ReadStop → Option (List ℕ) → Option (List ℕ) → ℕ → ℕ → Status → Type 0
-Refuses (Fault fault) old new before after status = Closes (refusal fault) old new before after status
-Refuses NoMemory old new before after status = Closes no_memory old new before after status
+abbrev pub PrintsRefusal : ReadStop → Option (List ℕ) → Option (List ℕ) → ℕ → ℕ → Status → Type 0
+PrintsRefusal (Fault fault) old new before after status = Closes (refusal fault) old new before after status
+PrintsRefusal NoMemory old new before after status = Closes no_memory old new before after status
 
 -- what is printed of a function that is refused, or for which there was no memory
 abbrev pub RefusesFunction : CheckStop → Option (List ℕ) → Option (List ℕ) → ℕ → ℕ → Status → Type 0
@@ -38,5 +38,5 @@ RefusesFunction check.NoMemory old new before after status = Closes no_memory ol
 pub record Judges (description : Description) (blocks : List Block) (old new : Option (List ℕ)) (before after : ℕ)
     (status : Status) : Type 0 where
   pub outcome : Outcome
-  pub meant : IsVerdict description blocks outcome ⊎ (outcome ≡ no_memory)
+  pub meant : IsTopologyVerdict description blocks outcome ⊎ (outcome ≡ no_memory)
   pub closed : Closes outcome old new before after status

@@ -26,5 +26,5 @@ IsFaultless reads reads' writes writes' status =
     status ≢ statuses.ReadFault → status ≢ statuses.WriteFault → (reads' ≡ reads) × (writes' ≡ writes)
 
 -- no fault shows in the call: the count of faults neither rose nor stands at its type's end
-abbrev pub Rests : ℕ → ℕ → Type 0
-Rests before after = Rose before after → ⊥
+abbrev pub HasNoFault : ℕ → ℕ → Type 0
+HasNoFault before after = Rose before after → ⊥

@@ -7,7 +7,7 @@ use Rattle.uac_sentence.specs.Sentence.{IsSentence}
 use Rattle.uac_grammar.specs.Stop.{shown_fault}
 use Rattle.uac_topology_rules.specs.declared.fault.TopologyFault.{TopologyFault}
 use Rattle.uac_topology.specs.Function.{FunctionFields}
-use Rattle.uac_topology.specs.Topology.{first_broken, IsSound, IsFunctionOf}
+use Rattle.uac_topology.specs.Topology.{first_fault_of, IsSound, IsFunctionOf}
 use Rattle.uac_describe.specs.declared.description.Description.{Description}
 use Rattle.uac_describe.specs.declared.description.Description.TheVariants.{Check, Elements, Show}
 use Rattle.uac_describe.specs.declared.status.Status.{Status}
@@ -47,13 +47,13 @@ refusal fault = record {
 }
 
 -- the function breaks a rule of the topology: the rule and its offender
-abbrev pub offender : Bool → List ℕ
-offender true = codes " interface "
-offender false = codes " entity "
+abbrev pub offender_text : Bool → List ℕ
+offender_text true = codes " interface "
+offender_text false = codes " entity "
 
 abbrev pub unsound : TopologyFault → Outcome
 unsound fault = record {
-  text = codes "descriptor U" ++ decimal fault.rule ++ offender fault.interface ++ decimal fault.id ++ codes "\n";
+  text = codes "descriptor U" ++ decimal fault.rule ++ offender_text fault.interface ++ decimal fault.id ++ codes "\n";
   status = statuses.Descriptor;
 }
 
@@ -71,21 +71,21 @@ abbrev pub sound : Description → List Block → FunctionFields → Outcome
 sound description blocks function = record { text = text_of description blocks function; status = statuses.Ok }
 
 -- what the topology says of blocks
-pub data IsVerdict (description : Description) (blocks : List Block) : Outcome → Type 0 where
+pub data IsTopologyVerdict (description : Description) (blocks : List Block) : Outcome → Type 0 where
   -- their function is sound
   is_sound : (function : FunctionFields) → IsSound blocks → IsFunctionOf function blocks
-      → IsVerdict description blocks (sound description blocks function)
+      → IsTopologyVerdict description blocks (sound description blocks function)
   -- the descriptor breaks this rule first
-  is_broken : (fault : TopologyFault) → first_broken blocks ≡ Some fault → IsVerdict description blocks (unsound fault)
+  is_broken : (fault : TopologyFault) → first_fault_of blocks ≡ Some fault → IsTopologyVerdict description blocks (unsound fault)
 
 -- What is said of a descriptor, by what was taken and why no more was.
-pub data Answers (description : Description) (taken : List ℕ) : End → Outcome → Type 0 where
+pub data IsOutcomeOf (description : Description) (taken : List ℕ) : End → Outcome → Type 0 where
   -- the bytes show a fault, whatever would follow
-  shows_fault : (end : End) (fault : GrammarFault) → shown_fault taken ≡ Some fault → Answers description taken end (refusal fault)
+  shows_fault : (end : End) (fault : GrammarFault) → shown_fault taken ≡ Some fault → IsOutcomeOf description taken end (refusal fault)
   -- no fault is shown, and a read failed
-  fails : shown_fault taken ≡ None → Answers description taken read_failed read_fault
+  fails : shown_fault taken ≡ None → IsOutcomeOf description taken read_failed read_fault
   -- the bytes are all, and have a fault
-  ends_in_fault : (fault : GrammarFault) → first_fault taken ≡ Some fault → Answers description taken at_end (refusal fault)
+  ends_in_fault : (fault : GrammarFault) → first_fault taken ≡ Some fault → IsOutcomeOf description taken at_end (refusal fault)
   -- the bytes are all, and are these blocks
-  is_read : (blocks : List Block) (outcome : Outcome) → IsSentence taken blocks → IsVerdict description blocks outcome
-      → Answers description taken at_end outcome
+  is_read : (blocks : List Block) (outcome : Outcome) → IsSentence taken blocks → IsTopologyVerdict description blocks outcome
+      → IsOutcomeOf description taken at_end outcome

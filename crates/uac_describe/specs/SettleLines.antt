@@ -12,5 +12,5 @@ settling_line rate = option_map_or (λ bound. codes "rate " ++ decimal rate ++ c
     ++ codes "\n") (bound_of rate) []
 
 -- one for each of the twelve rates, in their order
-abbrev pub settling : Outcome
-settling = record { text = flat_map settling_line twelve_rates; status = statuses.Ok }
+abbrev pub settle_outcome : Outcome
+settle_outcome = record { text = flat_map settling_line twelve_rates; status = statuses.Ok }

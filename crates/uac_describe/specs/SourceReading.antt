@@ -17,16 +17,16 @@ Finishes taken (Stopped NoMemory) = Unit {0}
 Finishes taken Failed = ⊥
 
 -- what is known of the bytes taken, by what came of them
-abbrev pub Comes : SourceEnd → List ℕ → Option (List ℕ) → ℕ → ℕ → Type 0
-Comes (Whole blocks) taken left before after = IsAtEnd left × IsSentence taken blocks.items
-Comes (Stopped (Fault fault)) taken left before after =
+abbrev pub ComesOfSource : SourceEnd → List ℕ → Option (List ℕ) → ℕ → ℕ → Type 0
+ComesOfSource (Whole blocks) taken left before after = IsAtEnd left × IsSentence taken blocks.items
+ComesOfSource (Stopped (Fault fault)) taken left before after =
     (shown_fault taken ≡ Some fault) ⊎ (IsAtEnd left × (first_fault taken ≡ Some fault))
-Comes (Stopped NoMemory) taken left before after = Unit {0}
-Comes Failed taken left before after = Rose before after × (shown_fault taken ≡ None)
+ComesOfSource (Stopped NoMemory) taken left before after = Unit {0}
+ComesOfSource Failed taken left before after = Rose before after × (shown_fault taken ≡ None)
 
 -- the most bytes that one call of the source is asked for
-abbrev pub piece_size : ℕ
-piece_size = 4096
+abbrev pub descriptor_piece : ℕ
+descriptor_piece = 4096
 
 -- Taking stopped at the fault: nothing was shown before the last piece.
 pub record StopsThere (taken : List ℕ) : Type 0 where
@@ -34,11 +34,11 @@ pub record StopsThere (taken : List ℕ) : Type 0 where
   pub piece : List ℕ
   pub parts : taken ≡ front ++ piece
   pub quiet : shown_fault front ≡ None
-  pub short : length piece ≤ piece_size
+  pub short : length piece ≤ descriptor_piece
 
 -- These bytes were taken, and this came of them.
-pub record Reads (old new : Option (List ℕ)) (before after : ℕ) (reading : SourceEnd) : Type 0 where
+pub record Reads (old new : Option (List ℕ)) (before after : ℕ) (end : SourceEnd) : Type 0 where
   pub taken : List ℕ
   pub consumed : Consumes old new taken
   pub prompt : StopsThere taken
-  pub comes : Comes reading taken new before after
+  pub comes : ComesOfSource end taken new before after

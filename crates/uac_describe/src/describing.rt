@@ -6,7 +6,7 @@ ghost use Rattle.uac_descriptor.specs.WellFormed.{AreWellFormed};
 ghost use Rattle.uac_edges.specs.Faults.{Rose, HasCause};
 ghost use Rattle.uac_edges.specs.Writing.{Writes};
 ghost use Rattle.uac_store.specs.StoreControls.{initial_controls};
-ghost use Rattle.uac_describe.specs.Answered.{IsAnswered, Judges, Refuses, RefusesFunction};
+ghost use Rattle.uac_describe.specs.Answered.{IsDescribed, Judges, PrintsRefusal, RefusesFunction};
 ghost use Rattle.uac_describe.specs.Closing.{Closes, IsFaultless};
 ghost use Rattle.uac_describe.specs.Outcome.{no_memory, sound, text_of};
 
@@ -33,7 +33,7 @@ pub fn describe<S: Source, K: Sink>(
     source: &mut S,
     sink: &mut K,
 ) -> Status
-    ensures answered { IsAnswered description (S.left source.old) (S.left source.new) (S.faults source.old) (S.faults source.new)
+    ensures answered { IsDescribed description (S.left source.old) (S.left source.new) (S.faults source.old) (S.faults source.new)
         (K.written sink.old) (K.written sink.new) (K.faults sink.old) (K.faults sink.new) result }
     ensures read_fault { result ≡ Status.ReadFault → Rose (S.faults source.old) (S.faults source.new) }
     ensures write_fault { result ≡ Status.WriteFault → Rose (K.faults sink.old) (K.faults sink.new) }
@@ -92,7 +92,7 @@ fn print<K: Sink>(
 
 /// Prints why a descriptor is refused.
 fn refuse<K: Sink>(stop: ReadStop, sink: &mut K) -> Status
-    ensures { Refuses stop (K.written sink.old) (K.written sink.new) (K.faults sink.old) (K.faults sink.new) result }
+    ensures { PrintsRefusal stop (K.written sink.old) (K.written sink.new) (K.faults sink.old) (K.faults sink.new) result }
 {
     match stop {
         ReadStop::Fault(fault) => close(sink, refusal_line(&fault).as_bytes(), Status::Descriptor),

@@ -1,7 +1,7 @@
 // The lines that are printed, each from a buffer of fixed size.
 ghost use Rattle.std.specs.Prelude.{◌≡◌, ◌≤◌, length};
 ghost use Rattle.uac_describe.specs.declared.description.Description.TheVariants.{Check};
-ghost use Rattle.uac_describe.specs.Outcome.{offender, refusal, text_of, unsound};
+ghost use Rattle.uac_describe.specs.Outcome.{offender_text, refusal, text_of, unsound};
 
 use uac_descriptor::Block;
 use uac_edges::TextLine;
@@ -36,15 +36,15 @@ pub fn unsound_line(fault: &TopologyFault) -> TextLine<96>
     let mut line = TextLine::new();
     line.push(b"descriptor U");
     line.push_number(u64::from(fault.rule));
-    line.push(offender(fault.interface));
+    line.push(offender_text(fault.interface));
     line.push_number(u64::from(fault.id));
     line.push(b"\n");
     line
 }
 
 /// What an offender is.
-fn offender(interface: bool) -> &'static [u8]
-    ensures text { result.now ≡ offender interface }
+fn offender_text(interface: bool) -> &'static [u8]
+    ensures text { result.now ≡ offender_text interface }
     ensures short { length result.now ≤ 11 }
 {
     if interface {

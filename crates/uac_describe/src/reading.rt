@@ -29,7 +29,7 @@ pub fn read_descriptor<S: Source>(alloc: Global, source: &mut S) -> SourceEnd
     let mut piece = [0; 4096];
     loop {
         match source.take(&mut piece) {
-            Ok(0) => return reading_at_end(reader),
+            Ok(0) => return end_of_descriptor(reader),
             Ok(count) => match reader.feed(&piece[..count]) {
                 Ok(()) => {}
                 Err(stop) => return SourceEnd::Stopped(stop),
@@ -40,7 +40,7 @@ pub fn read_descriptor<S: Source>(alloc: Global, source: &mut S) -> SourceEnd
 }
 
 /// What the bytes come to, now that there are no more.
-fn reading_at_end(reader: Reader) -> SourceEnd
+fn end_of_descriptor(reader: Reader) -> SourceEnd
     requires { reader.stop ≡ None }
     ensures { Finishes reader.taken result }
 {

@@ -2,7 +2,7 @@
 ghost use Rattle.std.specs.Prelude.{◌≡◌, ◌≢◌, ◌++◌, codes, decimal, flat_map};
 ghost use Rattle.uac_edges.specs.Faults.{HasCause, Rose};
 ghost use Rattle.uac_edges.specs.Writing.{Writes};
-ghost use Rattle.uac_describe.specs.SettleLines.{settling, settling_line};
+ghost use Rattle.uac_describe.specs.SettleLines.{settle_outcome, settling_line};
 ghost use Rattle.uac_describe.specs.Closing.{Closes};
 
 use crate::status::Status;
@@ -13,7 +13,7 @@ use uac_settle::settle_bound;
 
 /// Prints for each of the twelve rates after how many microframes a stream is home.
 pub fn settle<K: Sink>(sink: &mut K) -> Status
-    ensures closed { Closes settling (K.written sink.old) (K.written sink.new) (K.faults sink.old) (K.faults sink.new) result }
+    ensures closed { Closes settle_outcome (K.written sink.old) (K.written sink.new) (K.faults sink.old) (K.faults sink.new) result }
     ensures write_fault { result ≡ Status.WriteFault → Rose (K.faults sink.old) (K.faults sink.new) }
     ensures faultless { result ≢ Status.WriteFault → K.faults sink.new ≡ K.faults sink.old }
     ensures else_ok { result ≢ Status.WriteFault → result ≡ Status.Ok }

@@ -6,7 +6,7 @@ use Rattle.std.proofs.Math.Seq.{take-append_seam, drop-append_seam, get_or-appen
 use Rattle.uac_descriptor.specs.Layout.{IsWhole}
 use Rattle.uac_descriptor.specs.Little.{four}
 use Rattle.uac_descriptor.specs.Spelling.{spelling}
-use Rattle.uac_descriptor.specs.LayoutRows.{row, Spells, IsComplete, Context, row_in}
+use Rattle.uac_descriptor.specs.LayoutRows.{row, Spells, HasAllParts, Context, row_in}
 use Rattle.uac_descriptor.specs.BlockReading.{has_length, fields, is_whole, block_of, words_in, selector_fields, mixer_fields, last_of}
 use Rattle.uac_descriptor.specs.Standard.{CS_INTERFACE, MIXER_UNIT, SELECTOR_UNIT, CLOCK_SELECTOR}
 use Rattle.uac_descriptor.specs.declared.block.Block.{Block}
@@ -31,7 +31,7 @@ abbrev following : Block → List ℕ
 following b = drop 2 (spelling b)
 
 -- the spelling of a block is a whole block
-pub is_whole-spelling : (b : Block) → IsComplete b → is_whole (spelling b) ≡ true
+pub is_whole-spelling : (b : Block) → HasAllParts b → is_whole (spelling b) ≡ true
 unfolding spelling is_whole
 is_whole-spelling (variant.Foreign bytes) whole = is_whole-IsWhole bytes whole
 is_whole-spelling (variant.Configuration c) _ = refl
@@ -101,7 +101,7 @@ last_back bytes name =
     rw at (get_or-append_seam bytes name [] 0)
 
 -- the spelling of a block has a length of its row
-pub has_length-spelling : (b : Block) → IsComplete b → has_length (row b) (spelling b) ≡ true
+pub has_length-spelling : (b : Block) → HasAllParts b → has_length (row b) (spelling b) ≡ true
 unfolding has_length spelling
 has_length-spelling (variant.Configuration c) _ = refl
 has_length-spelling (variant.Association c) _ = refl

@@ -9,7 +9,7 @@ use Rattle.uac_descriptor.specs.Layout.{IsWhole, is_type_one}
 use Rattle.uac_descriptor.specs.Little.{four, two_at, four_at}
 use Rattle.uac_descriptor.specs.Spelling.{spelling}
 use Rattle.uac_descriptor.specs.LayoutRows as rows
-use Rattle.uac_descriptor.specs.LayoutRows.{row, Row, Spells, IsComplete, Context, row_in, row_of, rows_of, row_beside}
+use Rattle.uac_descriptor.specs.LayoutRows.{row, Row, Spells, HasAllParts, Context, row_in, row_of, rows_of, row_beside}
 use Rattle.uac_descriptor.specs.BlockReading.{AreBytes, has_length, fields, is_whole, block_of, words_in, last_of}
 use Rattle.uac_descriptor.specs.Standard.{
   CONFIGURATION,
@@ -368,34 +368,34 @@ row-fields rows.foreign bytes long = refl
 row-fields rows.too_short bytes long = absurd (false≢true long)
 
 -- it has the parts that its row asks for
-pub IsComplete-fields : (r : Row) (bytes : List ℕ) → IsWhole bytes → has_length r bytes ≡ true → IsComplete (fields r bytes)
+pub HasAllParts-fields : (r : Row) (bytes : List ℕ) → IsWhole bytes → has_length r bytes ≡ true → HasAllParts (fields r bytes)
 unfolding fields has_length
-IsComplete-fields rows.feature bytes whole long =
+HasAllParts-fields rows.feature bytes whole long =
     let k : ℕ = (length bytes - 6) / 4 in
     let least : 10 ≤ length bytes = leb-true 10 (length bytes) (and_parts (nat_le 10 (length bytes)) (length bytes % 4 == 2) long).0 in
     rw (length-words_in k (drop 5 bytes)) (omega (arith, least))
-IsComplete-fields rows.effect bytes whole long =
+HasAllParts-fields rows.effect bytes whole long =
     let k : ℕ = (length bytes - 8) / 4 in
     let least : 12 ≤ length bytes = leb-true 12 (length bytes) (and_parts (nat_le 12 (length bytes)) (length bytes % 4 == 0) long).0 in
     rw (length-words_in k (drop 7 bytes)) (omega (arith, least))
-IsComplete-fields rows.foreign bytes whole long = whole
-IsComplete-fields rows.too_short bytes whole long = whole
-IsComplete-fields rows.configuration bytes whole long = tt
-IsComplete-fields rows.association bytes whole long = tt
-IsComplete-fields rows.interface bytes whole long = tt
-IsComplete-fields rows.endpoint bytes whole long = tt
-IsComplete-fields rows.header bytes whole long = tt
-IsComplete-fields rows.input_terminal bytes whole long = tt
-IsComplete-fields rows.output_terminal bytes whole long = tt
-IsComplete-fields rows.mixer bytes whole long = tt
-IsComplete-fields rows.selector bytes whole long = tt
-IsComplete-fields rows.clock_source bytes whole long = tt
-IsComplete-fields rows.clock_selector bytes whole long = tt
-IsComplete-fields rows.clock_multiplier bytes whole long = tt
-IsComplete-fields rows.general bytes whole long = tt
-IsComplete-fields rows.type_one bytes whole long = tt
-IsComplete-fields rows.extra bytes whole long = tt
-IsComplete-fields rows.class_endpoint bytes whole long = tt
+HasAllParts-fields rows.foreign bytes whole long = whole
+HasAllParts-fields rows.too_short bytes whole long = whole
+HasAllParts-fields rows.configuration bytes whole long = tt
+HasAllParts-fields rows.association bytes whole long = tt
+HasAllParts-fields rows.interface bytes whole long = tt
+HasAllParts-fields rows.endpoint bytes whole long = tt
+HasAllParts-fields rows.header bytes whole long = tt
+HasAllParts-fields rows.input_terminal bytes whole long = tt
+HasAllParts-fields rows.output_terminal bytes whole long = tt
+HasAllParts-fields rows.mixer bytes whole long = tt
+HasAllParts-fields rows.selector bytes whole long = tt
+HasAllParts-fields rows.clock_source bytes whole long = tt
+HasAllParts-fields rows.clock_selector bytes whole long = tt
+HasAllParts-fields rows.clock_multiplier bytes whole long = tt
+HasAllParts-fields rows.general bytes whole long = tt
+HasAllParts-fields rows.type_one bytes whole long = tt
+HasAllParts-fields rows.extra bytes whole long = tt
+HasAllParts-fields rows.class_endpoint bytes whole long = tt
 
 -- where a block is read, the bytes are whole and of its row's length, and the block is what the row makes of them
 read_parts : (context : Context) (bytes : List ℕ) (b : Block) → block_of context bytes ≡ Some b →
@@ -436,12 +436,12 @@ Spells-block_of context (size ∷ kind ∷ rest) b are read =
     let whole : IsWhole bytes = IsWhole-is_whole bytes parts.0 in
     let fits : size ≡ length rest + 2 = omega (arith, whole.1) in
     let head : IsHeaded r kind rest = headed_in context size kind rest in
-    let P : Block → Type 0 = λ x. (spelling x ≡ bytes) × (row x ≡ r) × IsComplete x in
+    let P : Block → Type 0 = λ x. (spelling x ≡ bytes) × (row x ≡ r) × HasAllParts x in
     let facts : P b =
     subst P parts.2 (
       spelling-fields r size kind rest (λ i. are (suc (suc i))) fits parts.1 head,
       row-fields r bytes parts.1,
-      IsComplete-fields r bytes whole parts.1,
+      HasAllParts-fields r bytes whole parts.1,
     )
     in
     record { spelt = sym facts.0; stands = sym facts.1; complete = facts.2 }

@@ -16,7 +16,7 @@ pub record IsHighSpeed (e : endpoint.Endpoint) : Type 0 where
   pub small : packet_size e.max_packet ≤ 1024
 
 -- the bytes and the bits of a sample
-pub record IsFormat (t : type_one.TypeOne) : Type 0 where
+pub record IsTypeOneFormat (t : type_one.TypeOne) : Type 0 where
   pub slots : (1 ≤ t.subslot) × (t.subslot ≤ 4)
   pub fits : (1 ≤ t.bits) × (t.bits ≤ 8 * t.subslot)
 

@@ -5,44 +5,44 @@ use Rattle.uac_descriptor.specs.declared.control.Header.{Header}
 use Rattle.uac_descriptor.specs.declared.block.Block as block
 use Rattle.uac_descriptor.specs.declared.block.Block.TheVariants as variant
 
-abbrev pub configuration_of : block.Block → Option Configuration
-configuration_of (variant.Configuration c) = Some c
-configuration_of (variant.Association _) = None
-configuration_of (variant.Interface _) = None
-configuration_of (variant.Endpoint _) = None
-configuration_of (variant.Header _) = None
-configuration_of (variant.InputTerminal _) = None
-configuration_of (variant.OutputTerminal _) = None
-configuration_of (variant.Mixer _) = None
-configuration_of (variant.Selector _) = None
-configuration_of (variant.Feature _) = None
-configuration_of (variant.Effect _) = None
-configuration_of (variant.ClockSource _) = None
-configuration_of (variant.ClockSelector _) = None
-configuration_of (variant.ClockMultiplier _) = None
-configuration_of (variant.General _) = None
-configuration_of (variant.TypeOne _) = None
-configuration_of (variant.Extra _) = None
-configuration_of (variant.ClassEndpoint _) = None
-configuration_of (variant.Foreign _) = None
+abbrev pub as_configuration : block.Block → Option Configuration
+as_configuration (variant.Configuration c) = Some c
+as_configuration (variant.Association _) = None
+as_configuration (variant.Interface _) = None
+as_configuration (variant.Endpoint _) = None
+as_configuration (variant.Header _) = None
+as_configuration (variant.InputTerminal _) = None
+as_configuration (variant.OutputTerminal _) = None
+as_configuration (variant.Mixer _) = None
+as_configuration (variant.Selector _) = None
+as_configuration (variant.Feature _) = None
+as_configuration (variant.Effect _) = None
+as_configuration (variant.ClockSource _) = None
+as_configuration (variant.ClockSelector _) = None
+as_configuration (variant.ClockMultiplier _) = None
+as_configuration (variant.General _) = None
+as_configuration (variant.TypeOne _) = None
+as_configuration (variant.Extra _) = None
+as_configuration (variant.ClassEndpoint _) = None
+as_configuration (variant.Foreign _) = None
 
-abbrev pub header_of : block.Block → Option Header
-header_of (variant.Configuration _) = None
-header_of (variant.Association _) = None
-header_of (variant.Interface _) = None
-header_of (variant.Endpoint _) = None
-header_of (variant.Header h) = Some h
-header_of (variant.InputTerminal _) = None
-header_of (variant.OutputTerminal _) = None
-header_of (variant.Mixer _) = None
-header_of (variant.Selector _) = None
-header_of (variant.Feature _) = None
-header_of (variant.Effect _) = None
-header_of (variant.ClockSource _) = None
-header_of (variant.ClockSelector _) = None
-header_of (variant.ClockMultiplier _) = None
-header_of (variant.General _) = None
-header_of (variant.TypeOne _) = None
-header_of (variant.Extra _) = None
-header_of (variant.ClassEndpoint _) = None
-header_of (variant.Foreign _) = None
+abbrev pub as_header : block.Block → Option Header
+as_header (variant.Configuration _) = None
+as_header (variant.Association _) = None
+as_header (variant.Interface _) = None
+as_header (variant.Endpoint _) = None
+as_header (variant.Header h) = Some h
+as_header (variant.InputTerminal _) = None
+as_header (variant.OutputTerminal _) = None
+as_header (variant.Mixer _) = None
+as_header (variant.Selector _) = None
+as_header (variant.Feature _) = None
+as_header (variant.Effect _) = None
+as_header (variant.ClockSource _) = None
+as_header (variant.ClockSelector _) = None
+as_header (variant.ClockMultiplier _) = None
+as_header (variant.General _) = None
+as_header (variant.TypeOne _) = None
+as_header (variant.Extra _) = None
+as_header (variant.ClassEndpoint _) = None
+as_header (variant.Foreign _) = None

@@ -127,29 +127,29 @@ row (variant.ClassEndpoint _) = class_endpoint
 row (variant.Foreign _) = foreign
 
 -- a block has the parts that its row asks for: the master's control word, and of a block that is kept whole all its bytes
-abbrev pub IsComplete : block.Block → Type 0
-IsComplete (variant.Feature f) = 1 ≤ length f.words
-IsComplete (variant.Effect e) = 1 ≤ length e.words
-IsComplete (variant.Foreign bytes) = IsWhole bytes
-IsComplete (variant.Configuration _) = Unit {0}
-IsComplete (variant.Association _) = Unit {0}
-IsComplete (variant.Interface _) = Unit {0}
-IsComplete (variant.Endpoint _) = Unit {0}
-IsComplete (variant.Header _) = Unit {0}
-IsComplete (variant.InputTerminal _) = Unit {0}
-IsComplete (variant.OutputTerminal _) = Unit {0}
-IsComplete (variant.Mixer _) = Unit {0}
-IsComplete (variant.Selector _) = Unit {0}
-IsComplete (variant.ClockSource _) = Unit {0}
-IsComplete (variant.ClockSelector _) = Unit {0}
-IsComplete (variant.ClockMultiplier _) = Unit {0}
-IsComplete (variant.General _) = Unit {0}
-IsComplete (variant.TypeOne _) = Unit {0}
-IsComplete (variant.Extra _) = Unit {0}
-IsComplete (variant.ClassEndpoint _) = Unit {0}
+abbrev pub HasAllParts : block.Block → Type 0
+HasAllParts (variant.Feature f) = 1 ≤ length f.words
+HasAllParts (variant.Effect e) = 1 ≤ length e.words
+HasAllParts (variant.Foreign bytes) = IsWhole bytes
+HasAllParts (variant.Configuration _) = Unit {0}
+HasAllParts (variant.Association _) = Unit {0}
+HasAllParts (variant.Interface _) = Unit {0}
+HasAllParts (variant.Endpoint _) = Unit {0}
+HasAllParts (variant.Header _) = Unit {0}
+HasAllParts (variant.InputTerminal _) = Unit {0}
+HasAllParts (variant.OutputTerminal _) = Unit {0}
+HasAllParts (variant.Mixer _) = Unit {0}
+HasAllParts (variant.Selector _) = Unit {0}
+HasAllParts (variant.ClockSource _) = Unit {0}
+HasAllParts (variant.ClockSelector _) = Unit {0}
+HasAllParts (variant.ClockMultiplier _) = Unit {0}
+HasAllParts (variant.General _) = Unit {0}
+HasAllParts (variant.TypeOne _) = Unit {0}
+HasAllParts (variant.Extra _) = Unit {0}
+HasAllParts (variant.ClassEndpoint _) = Unit {0}
 
 -- these bytes spell this block in this context: they are its bytes, and there its row reads them
 pub record Spells (context : Context) (b : block.Block) (bytes : List ℕ) : Type 0 where
   pub spelt : bytes ≡ spelling b
   pub stands : row_in context bytes ≡ row b
-  pub complete : IsComplete b
+  pub complete : HasAllParts b

@@ -2,7 +2,7 @@
 -- Formats 2.0, 2.3.1.6 (bSubslotSize, bBitResolution); USB 2.0, 9.6.5 and 9.6.6 (the numbers of interfaces, and endpoints).
 use Rattle.std.specs.Prelude.{◌≢◌, List, [], length, IsTrue}
 use Rattle.uac_descriptor.specs.Contexts.{EachIn, is_audio}
-use Rattle.uac_descriptor.specs.BlockFields.{is_isochronous, IsHighSpeed, IsFormat}
+use Rattle.uac_descriptor.specs.BlockFields.{is_isochronous, IsHighSpeed, IsTypeOneFormat}
 use Rattle.uac_descriptor.specs.BlockTurns.{BeginsWithControl, InTurn, interfaces_in}
 use Rattle.uac_descriptor.specs.declared.context.Context.{Context}
 use Rattle.uac_descriptor.specs.declared.context.Context.TheVariants as context
@@ -26,7 +26,7 @@ IsWellFormed place (variant.ClockSource _) = Unit {0}
 IsWellFormed place (variant.ClockSelector c) = length c.sources ≢ 0
 IsWellFormed place (variant.ClockMultiplier _) = Unit {0}
 IsWellFormed place (variant.General _) = Unit {0}
-IsWellFormed place (variant.TypeOne t) = IsFormat t
+IsWellFormed place (variant.TypeOne t) = IsTypeOneFormat t
 IsWellFormed place (variant.Extra _) = Unit {0}
 IsWellFormed place (variant.ClassEndpoint _) = Unit {0}
 IsWellFormed place (variant.Foreign _) = Unit {0}

@@ -10,17 +10,17 @@ use Rattle.uac_store.specs.declared.keys.Key.{Key}
 use Rattle.uac_alt.specs.AltStreams.{StreamFields, stream_fields, stream_of}
 use Rattle.uac_alt.specs.declared.settings.InterfaceSetting.{InterfaceSetting}
 use Rattle.uac_alt.specs.declared.values.Stream.{Stream}
-use Rattle.uac_request.specs.Requests.{RequestState, AnswerFields, after_request, request_state, rate_at, reply_of, sets_interface}
+use Rattle.uac_request.specs.Requests.{RequestState, AnswerFields, after_request, request_state, rate_at, reply_of, sets_interface, is_done_answer}
 use Rattle.uac_request.specs.declared.setup.Setup.{Setup}
 use Rattle.uac_flow.specs.FlowStreams.{InStream, OutStream}
-use Rattle.uac_lanes.specs.declared.lane.DeviceStream.{DeviceStream}
-use Rattle.uac_lanes.specs.declared.lane.Port.{Port}
-use Rattle.uac_lanes.specs.InterfaceStreams.{in_from, out_from, replaced_at}
-use Rattle.uac_device.specs.DeviceWorld.{DeviceWorld, after_control, after_restart, stream_in_setting, tells_done}
+use Rattle.uac_device_streams.specs.declared.device_stream.DeviceStream.{DeviceStream}
+use Rattle.uac_device_streams.specs.declared.device_stream.Port.{Port}
+use Rattle.uac_device_streams.specs.InterfaceStreams.{in_from, out_from, replaced_at}
+use Rattle.uac_device.specs.DeviceWorld.{DeviceWorld, after_control, after_restart, stream_in_setting}
 use Rattle.uac_device.specs.DeviceKept.{DeviceFields, IsControlled, IsDevice, DeviceStands}
-use Rattle.uac_lanes.specs.Lanes.{LanesStand, port_of, ports}
+use Rattle.uac_device_streams.specs.DeviceStreams.{DeviceStreamsStand, port_of, ports}
 use Rattle.uac_device.specs.Linked.{FitsInterface}
-use Rattle.uac_lanes.proofs.LanesLemmas.{FitsAt}
+use Rattle.uac_device_streams.proofs.DeviceStreamsLemmas.{FitsAt}
 use Rattle.uac_device.proofs.SettingStreams.{stream_fits}
 
 -- ---- the stream that is asked for
@@ -53,12 +53,12 @@ find_port entities interface (s ∷ ss) = by (s.number == interface) (find_port 
 
 -- it fits its interface
 pub begun_fits : (device : DeviceFields) (begun : Option Stream) (interface setting : ℕ) → IsSoundFunction device.function → IsDevice device
-    → option_map stream_fields begun ≡ stream_in_setting device.function device.controls interface setting → FitsAt device.lanes interface begun
+    → option_map stream_fields begun ≡ stream_in_setting device.function device.controls interface setting → FitsAt device.device_streams interface begun
 begun_fits device None interface setting sound is asked = tt
 begun_fits device (Some s) interface setting sound is asked =
     let fits = asked_fits device.function sound device.controls interface setting (stream_fields s) (sym asked) in
     let port = port_of device.function.entities fits.streaming_interface in
-    let there : find (λ p. p.interface == interface) (ports device.lanes) ≡ Some port =
+    let there : find (λ p. p.interface == interface) (ports device.device_streams) ≡ Some port =
     ap (find (λ (p : Port). p.interface == interface)) is.ports
     ∙ find_port device.function.entities interface device.function.streams
     ∙ ap (option_map (port_of device.function.entities)) fits.there in
@@ -90,10 +90,10 @@ module _ (device : DeviceFields) (controls : List (Key × ℤ)) (settings : List
       let after = after_request w.function (request_state w.controls w.settings) p bytes in
       record w { controls = after.controls; settings = after.settings; outs = outs; ins = ins }
 
-  held_stands : (lanes : List DeviceStream) (w : DeviceWorld) (outs : ℕ → Option OutStream) (ins : ℕ → Option InStream) → LanesStand lanes outs ins → DeviceStands device w
-      → DeviceStands (record device { controls = controls; settings = settings; lanes = lanes }) (with_held w outs ins)
+  held_stands : (device_streams : List DeviceStream) (w : DeviceWorld) (outs : ℕ → Option OutStream) (ins : ℕ → Option InStream) → DeviceStreamsStand device_streams outs ins → DeviceStands device w
+      → DeviceStands (record device { controls = controls; settings = settings; device_streams = device_streams }) (with_held w outs ins)
   unfolding with_held
-  held_stands lanes w outs ins keeps stands = record {
+  held_stands device_streams w outs ins keeps stands = record {
     function = stands.function;
     controls = ap (λ (h : RequestState). h.controls) (held_in w stands);
     settings = ap (λ (h : RequestState). h.settings) (held_in w stands);
@@ -104,12 +104,12 @@ module _ (device : DeviceFields) (controls : List (Key × ℤ)) (settings : List
     outputs = stands.outputs;
   }
 
-  tested : (w : DeviceWorld) → DeviceStands device w → (b : Bool) → (sets_interface p && tells_done told) ≡ b
-      → (sets_interface p && tells_done (reply_of w.function (request_state w.controls w.settings) p bytes)) ≡ b
-  tested w stands b test = sym (ap (λ (t : AnswerFields). sets_interface p && tells_done t) (told_in w stands)) ∙ test
+  tested : (w : DeviceWorld) → DeviceStands device w → (b : Bool) → (sets_interface p && is_done_answer told) ≡ b
+      → (sets_interface p && is_done_answer (reply_of w.function (request_state w.controls w.settings) p bytes)) ≡ b
+  tested w stands b test = sym (ap (λ (t : AnswerFields). sets_interface p && is_done_answer t) (told_in w stands)) ∙ test
 
   -- no setting was set
-  stands_else : (sets_interface p && tells_done told) ≡ false → (w : DeviceWorld) → DeviceStands device w
+  stands_else : (sets_interface p && is_done_answer told) ≡ false → (w : DeviceWorld) → DeviceStands device w
       → DeviceStands (record device { controls = controls; settings = settings }) (after_control p bytes w)
   unfolding after_control with_held
   stands_else test w stands =
@@ -117,19 +117,19 @@ module _ (device : DeviceFields) (controls : List (Key × ℤ)) (settings : List
       let asked : DeviceWorld = record w { controls = after.controls; settings = after.settings } in
       subst (DeviceStands (record device { controls = controls; settings = settings }))
       (sym (ap (λ (b : Bool). if b then after_restart p.index (stream_in_setting w.function w.controls p.index p.value) asked else asked) (tested w stands false test)))
-      (held_stands device.lanes w w.outs w.ins stands.streams stands)
+      (held_stands device.device_streams w w.outs w.ins stands.streams stands)
 
-  pub control_else : (sets_interface p && tells_done told) ≡ false → IsControlled p bytes told device (record device { controls = controls; settings = settings })
+  pub control_else : (sets_interface p && is_done_answer told) ≡ false → IsControlled p bytes told device (record device { controls = controls; settings = settings })
   control_else test = record { answer = answer; held = held; function = refl; stands = stands_else test }
 
   -- one was
-  stands_then : (lanes : List DeviceStream) (begun : Option StreamFields) → (sets_interface p && tells_done told) ≡ true
+  stands_then : (device_streams : List DeviceStream) (begun : Option StreamFields) → (sets_interface p && is_done_answer told) ≡ true
       → begun ≡ stream_in_setting device.function device.controls p.index p.value
-      → ((outs : ℕ → Option OutStream) (ins : ℕ → Option InStream) → LanesStand device.lanes outs ins
-      → LanesStand lanes (replaced_at p.index (option_and_then out_from begun) outs) (replaced_at p.index (option_and_then in_from begun) ins))
-      → (w : DeviceWorld) → DeviceStands device w → DeviceStands (record device { controls = controls; settings = settings; lanes = lanes }) (after_control p bytes w)
+      → ((outs : ℕ → Option OutStream) (ins : ℕ → Option InStream) → DeviceStreamsStand device.device_streams outs ins
+      → DeviceStreamsStand device_streams (replaced_at p.index (option_and_then out_from begun) outs) (replaced_at p.index (option_and_then in_from begun) ins))
+      → (w : DeviceWorld) → DeviceStands device w → DeviceStands (record device { controls = controls; settings = settings; device_streams = device_streams }) (after_control p bytes w)
   unfolding after_control after_restart with_held
-  stands_then lanes begun test asked restarts w stands =
+  stands_then device_streams begun test asked restarts w stands =
       let after = after_request w.function (request_state w.controls w.settings) p bytes in
       let left : DeviceWorld = record w { controls = after.controls; settings = after.settings } in
       let new : Option StreamFields = stream_in_setting w.function w.controls p.index p.value in
@@ -137,16 +137,16 @@ module _ (device : DeviceFields) (controls : List (Key × ℤ)) (settings : List
       asked
       ∙ ap (λ (f : FunctionFields). stream_in_setting f device.controls p.index p.value) stands.function
       ∙ ap (λ (cs : List (Key × ℤ)). stream_in_setting w.function cs p.index p.value) stands.controls in
-      subst (DeviceStands (record device { controls = controls; settings = settings; lanes = lanes }))
+      subst (DeviceStands (record device { controls = controls; settings = settings; device_streams = device_streams }))
       (sym (ap (λ (b : Bool). if b then after_restart p.index new left else left) (tested w stands true test)))
-      (held_stands lanes w (replaced_at p.index (option_and_then out_from new) w.outs) (replaced_at p.index (option_and_then in_from new) w.ins)
-      (subst (λ (o : Option StreamFields). LanesStand lanes (replaced_at p.index (option_and_then out_from o) w.outs) (replaced_at p.index (option_and_then in_from o) w.ins)) same
+      (held_stands device_streams w (replaced_at p.index (option_and_then out_from new) w.outs) (replaced_at p.index (option_and_then in_from new) w.ins)
+      (subst (λ (o : Option StreamFields). DeviceStreamsStand device_streams (replaced_at p.index (option_and_then out_from o) w.outs) (replaced_at p.index (option_and_then in_from o) w.ins)) same
       (restarts w.outs w.ins stands.streams))
       stands)
 
-  pub control_then : (lanes : List DeviceStream) (begun : Option StreamFields) → (sets_interface p && tells_done told) ≡ true
+  pub control_then : (device_streams : List DeviceStream) (begun : Option StreamFields) → (sets_interface p && is_done_answer told) ≡ true
       → begun ≡ stream_in_setting device.function device.controls p.index p.value
-      → ((outs : ℕ → Option OutStream) (ins : ℕ → Option InStream) → LanesStand device.lanes outs ins
-      → LanesStand lanes (replaced_at p.index (option_and_then out_from begun) outs) (replaced_at p.index (option_and_then in_from begun) ins))
-      → IsControlled p bytes told device (record device { controls = controls; settings = settings; lanes = lanes })
-  control_then lanes begun test asked restarts = record { answer = answer; held = held; function = refl; stands = stands_then lanes begun test asked restarts }
+      → ((outs : ℕ → Option OutStream) (ins : ℕ → Option InStream) → DeviceStreamsStand device.device_streams outs ins
+      → DeviceStreamsStand device_streams (replaced_at p.index (option_and_then out_from begun) outs) (replaced_at p.index (option_and_then in_from begun) ins))
+      → IsControlled p bytes told device (record device { controls = controls; settings = settings; device_streams = device_streams })
+  control_then device_streams begun test asked restarts = record { answer = answer; held = held; function = refl; stands = stands_then device_streams begun test asked restarts }

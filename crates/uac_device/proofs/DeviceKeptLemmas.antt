@@ -14,11 +14,11 @@ use Rattle.uac_clock.specs.declared.values.Nominal.{Nominal}
 use Rattle.uac_store.specs.Rates.{rate_of}
 use Rattle.uac_device.specs.declared.clocks.DomainClock.{DomainClock}
 use Rattle.uac_flow.specs.FlowStreams.{after_ticks}
-use Rattle.uac_lanes.specs.InterfaceStreams.{changed_where}
+use Rattle.uac_device_streams.specs.InterfaceStreams.{changed_where}
 use Rattle.uac_device.specs.DeviceWorld.{DeviceWorld, Domain, after_advance, after_deviation, is_on, next_ticks, step_in, steps_with_next}
-use Rattle.uac_lanes.specs.declared.lane.DeviceStream.{DeviceStream}
-use Rattle.uac_lanes.specs.Lanes.{LanesStand}
-use Rattle.uac_device.specs.DeviceKept.{DeviceFields, IsInRange, DeviceStands, clock_of}
+use Rattle.uac_device_streams.specs.declared.device_stream.DeviceStream.{DeviceStream}
+use Rattle.uac_device_streams.specs.DeviceStreams.{DeviceStreamsStand}
+use Rattle.uac_device.specs.DeviceKept.{DeviceFields, IsDeviationInRange, DeviceStands, clock_of}
 use Rattle.uac_device.specs.DeviceTurns.{clock_after_advance, clock_after_deviation, first_ticks, resting_clock, step_by, ticks_where}
 
 map_turned : {A B : Type 0} (f : A → B) (g : A → A) (h : B → B) → ((a : A) → f (g a) ≡ h (f a)) → (xs : List A) → map f (map g xs) ≡ map h (map f xs)
@@ -108,12 +108,12 @@ next_kept w clock values rated (d ∷ ds) = one (d.id == clock) refl (next_kept 
         ∙ sym (last_ticks d.steps (step_in w d))
     one false other others = others
 
-pub advanced_stands : (device : DeviceFields) (clocks : List DomainClock) (lanes : List DeviceStream) (clock : ℕ) (values : Option Nominal) (w : DeviceWorld)
+pub advanced_stands : (device : DeviceFields) (clocks : List DomainClock) (device_streams : List DeviceStream) (clock : ℕ) (values : Option Nominal) (w : DeviceWorld)
     → values ≡ option_and_then nominal_of (rate_of device.function.entities device.controls clock) → clocks ≡ map (clock_after_advance clock values) device.clocks
-    → LanesStand lanes (changed_where (is_on w clock) (λ interface. after_ticks (next_ticks clock w)) w.outs) w.ins
-    → DeviceStands device w → DeviceStands (record device { clocks = clocks; lanes = lanes }) (after_advance clock w)
+    → DeviceStreamsStand device_streams (changed_where (is_on w clock) (λ interface. after_ticks (next_ticks clock w)) w.outs) w.ins
+    → DeviceStands device w → DeviceStands (record device { clocks = clocks; device_streams = device_streams }) (after_advance clock w)
 unfolding after_advance
-advanced_stands device clocks lanes clock values w rated turned counted stands = record {
+advanced_stands device clocks device_streams clock values w rated turned counted stands = record {
   function = stands.function;
   controls = stands.controls;
   settings = stands.settings;
@@ -239,18 +239,18 @@ advanced_domains domain values clocks = domains_kept (clock_after_advance domain
     one c true = refl
     one c false = refl
 
-pub resting_range : (ds : List ℕ) → All (λ c. IsInRange c.deviation) (map resting_clock ds)
-resting_range ds = all_changed (λ _. Unit {0}) (λ c. IsInRange c.deviation) resting_clock (λ d _. (search (arith, ints), search (arith, ints))) ds (λ k d below. tt)
+pub resting_range : (ds : List ℕ) → All (λ c. IsDeviationInRange c.deviation) (map resting_clock ds)
+resting_range ds = all_changed (λ _. Unit {0}) (λ c. IsDeviationInRange c.deviation) resting_clock (λ d _. (search (arith, ints), search (arith, ints))) ds (λ k d below. tt)
 
 pub resting_phases : (ds : List ℕ) → All (λ c. c.phase < 65536) (map resting_clock ds)
 resting_phases ds = all_changed (λ _. Unit {0}) (λ c. c.phase < 65536) resting_clock (λ d _. omega arith) ds (λ k d below. tt)
 
-pub deviated_range : (domain : ℕ) (ppm : ℤ) (clocks : List DomainClock) → IsInRange ppm → All (λ c. IsInRange c.deviation) clocks
-    → All (λ c. IsInRange c.deviation) (map (clock_after_deviation domain ppm) clocks)
+pub deviated_range : (domain : ℕ) (ppm : ℤ) (clocks : List DomainClock) → IsDeviationInRange ppm → All (λ c. IsDeviationInRange c.deviation) clocks
+    → All (λ c. IsDeviationInRange c.deviation) (map (clock_after_deviation domain ppm) clocks)
 deviated_range domain ppm clocks within all =
-    all_changed (λ c. IsInRange c.deviation) (λ c. IsInRange c.deviation) (clock_after_deviation domain ppm) (λ c. one c (c.domain == domain)) clocks all
+    all_changed (λ c. IsDeviationInRange c.deviation) (λ c. IsDeviationInRange c.deviation) (clock_after_deviation domain ppm) (λ c. one c (c.domain == domain)) clocks all
   where
-    one : (c : DomainClock) (b : Bool) → IsInRange c.deviation → IsInRange (if b then record c { deviation = ppm } else c).deviation
+    one : (c : DomainClock) (b : Bool) → IsDeviationInRange c.deviation → IsDeviationInRange (if b then record c { deviation = ppm } else c).deviation
     one c true range = within
     one c false range = range
 
@@ -263,12 +263,12 @@ deviated_phases domain ppm clocks all =
     one c true past = past
     one c false past = past
 
-pub advanced_range : (domain : ℕ) (values : Option Nominal) (clocks : List DomainClock) → All (λ c. IsInRange c.deviation) clocks
-    → All (λ c. IsInRange c.deviation) (map (clock_after_advance domain values) clocks)
+pub advanced_range : (domain : ℕ) (values : Option Nominal) (clocks : List DomainClock) → All (λ c. IsDeviationInRange c.deviation) clocks
+    → All (λ c. IsDeviationInRange c.deviation) (map (clock_after_advance domain values) clocks)
 advanced_range domain values clocks all =
-    all_changed (λ c. IsInRange c.deviation) (λ c. IsInRange c.deviation) (clock_after_advance domain values) (λ c. one c (c.domain == domain)) clocks all
+    all_changed (λ c. IsDeviationInRange c.deviation) (λ c. IsDeviationInRange c.deviation) (clock_after_advance domain values) (λ c. one c (c.domain == domain)) clocks all
   where
-    one : (c : DomainClock) (b : Bool) → IsInRange c.deviation → IsInRange (if b then record c { phase = (c.phase + step_by values c.deviation) % 65536 } else c).deviation
+    one : (c : DomainClock) (b : Bool) → IsDeviationInRange c.deviation → IsDeviationInRange (if b then record c { phase = (c.phase + step_by values c.deviation) % 65536 } else c).deviation
     one c true range = range
     one c false range = range
 

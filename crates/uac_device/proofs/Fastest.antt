@@ -8,7 +8,7 @@ use Rattle.uac_clock.specs.Nominal.{IsNominal, is_listed, nominal_of, step_of, t
 use Rattle.uac_clock.specs.declared.values.Nominal.{Nominal}
 use Rattle.uac_clock.proofs.NominalLemmas.{each_listed, nominal_of-listed, nominal_of-unlisted}
 use Rattle.uac_device.specs.declared.clocks.DomainClock.{DomainClock}
-use Rattle.uac_device.specs.DeviceKept.{IsInRange}
+use Rattle.uac_device.specs.DeviceKept.{IsDeviationInRange}
 use Rattle.uac_device.specs.DeviceTurns.{first_ticks, step_by}
 
 twelve_are_slow : AllByRecursion (λ r. (values_of r).f ≤ 1572864) twelve_rates
@@ -26,7 +26,7 @@ nominal_most values rate = from (is_listed rate.0) refl
     from false other = absurd (let e : None ≡ Some values = sym (nominal_of-unlisted rate.0 other) ∙ rate.1 in cc)
 
 -- nor a tenth more
-step_most : (values : Nominal) (ppm : ℤ) → values.f ≤ 1572864 → IsInRange ppm → step_of values ppm ≤ 1730150
+step_most : (values : Nominal) (ppm : ℤ) → values.f ≤ 1572864 → IsDeviationInRange ppm → step_of values ppm ≤ 1730150
 step_most values (pos m) slow range =
     let small : m ≤ 100000 = omega (arith, ints) in
     let product : values.f * m ≤ 1572864 * 100000 = mul-le values.f m 1572864 100000 slow small in
@@ -39,7 +39,7 @@ rated_nominal None values e = absurd (cc)
 rated_nominal (Some hertz) values e = (hertz, e)
 
 -- a clock in range
-ticks_most : (values : Option Nominal) (c : DomainClock) → ((nominal : Nominal) → values ≡ Some nominal → IsNominal nominal) → IsInRange c.deviation → c.phase < 65536
+ticks_most : (values : Option Nominal) (c : DomainClock) → ((nominal : Nominal) → values ≡ Some nominal → IsNominal nominal) → IsDeviationInRange c.deviation → c.phase < 65536
     → (c.phase + step_by values c.deviation) / 65536 ≤ 27
 ticks_most None c rated range past = omega arith
 ticks_most (Some values) c rated range past =
@@ -47,7 +47,7 @@ ticks_most (Some values) c rated range past =
 
 -- clocks in range
 pub few_ticks : (domain : ℕ) (values : Option Nominal) (clocks : List DomainClock) → ((nominal : Nominal) → values ≡ Some nominal → IsNominal nominal)
-    → All (λ c. IsInRange c.deviation) clocks → All (λ c. c.phase < 65536) clocks → first_ticks domain values clocks ≤ 27
+    → All (λ c. IsDeviationInRange c.deviation) clocks → All (λ c. c.phase < 65536) clocks → first_ticks domain values clocks ≤ 27
 few_ticks domain values [] rated range past = omega arith
 few_ticks domain values (c ∷ cs) rated range past =
     one (c.domain == domain) (few_ticks domain values cs rated (λ k d below. range (suc k) d (omega arith)) (λ k d below. past (suc k) d (omega arith)))

@@ -19,19 +19,19 @@ use Rattle.uac_graph.specs.Jobs.{AreSameBut}
 use Rattle.uac_request.specs.Requests.{RequestState, Owner, after_request, controls_set, first_broken, request_state, high, key_named, left_by, owner_of, sent_value, sets_cur, sets_interface}
 use Rattle.uac_request.proofs.Staying.{SameClocks, id_of_named, same_rate}
 use Rattle.uac_request.specs.declared.setup.Setup.{Setup}
-use Rattle.uac_device.specs.Following.{IsDerived, IsLeftBy, IsPace, renewed_pace}
+use Rattle.uac_device.specs.Following.{IsDerived, IsLeftBy, IsDomainRate, renewed_rate}
 use Rattle.uac_device.specs.declared.derived.Derived.{Derived}
 use Rattle.uac_device.specs.declared.derived.DomainRate.{DomainRate}
 
--- paces that are renewed are those of the controls
-pub renewed_paces : (entities : List Entity) (controls : List (Key × ℤ)) (paces : List DomainRate) → All (IsPace entities controls) (map (renewed_pace entities controls) paces)
-renewed_paces entities controls paces = All-map (IsPace entities controls) (renewed_pace entities controls) paces (λ k d below. refl)
+-- rates that are renewed are those of the controls
+pub renewed_paces : (entities : List Entity) (controls : List (Key × ℤ)) (rates : List DomainRate) → All (IsDomainRate entities controls) (map (renewed_rate entities controls) rates)
+renewed_paces entities controls rates = All-map (IsDomainRate entities controls) (renewed_rate entities controls) rates (λ k d below. refl)
 
--- where an entity is no clock, other values of its controls leave the paces as they are
-pub same_paces : (entities : List Entity) (before after : List (Key × ℤ)) (id : ℕ) (paces : List DomainRate) → AreSameBut id (controls_in before) (controls_in after)
-    → option_map_or (λ e. is_clock e.kind) (entity_by_id entities id) false ≡ false → All (IsPace entities before) paces → All (IsPace entities after) paces
-same_paces entities before after id paces same other paced k d below =
-    paced k d below ∙ ap (option_and_then nominal_of) (sym (same_rate entities before after clocks (get_or paces k d).domain))
+-- where an entity is no clock, other values of its controls leave the rates as they are
+pub same_paces : (entities : List Entity) (before after : List (Key × ℤ)) (id : ℕ) (rates : List DomainRate) → AreSameBut id (controls_in before) (controls_in after)
+    → option_map_or (λ e. is_clock e.kind) (entity_by_id entities id) false ≡ false → All (IsDomainRate entities before) rates → All (IsDomainRate entities after) rates
+same_paces entities before after id rates same other paced k d below =
+    paced k d below ∙ ap (option_and_then nominal_of) (sym (same_rate entities before after clocks (get_or rates k d).domain))
   where
     no_clock : (e : Entity) → entity_by_id entities id ≡ Some e → is_clock e.kind ≡ true → ⊥
     no_clock e found clock =

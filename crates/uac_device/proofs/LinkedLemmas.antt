@@ -28,7 +28,7 @@ use Rattle.uac_topology_rules.proofs.FirstPlace.{breaks_none}
 use Rattle.uac_topology_rules.proofs.Found.{position-below}
 use Rattle.uac_topology_rules.proofs.Sound.{has_names, or_none}
 use Rattle.uac_topology.specs.Function.{FunctionFields}
-use Rattle.uac_topology.specs.Topology.{first_broken, IsSound, IsSoundFunction, streams_in}
+use Rattle.uac_topology.specs.Topology.{first_fault_of, IsSound, IsSoundFunction, streams_in}
 use Rattle.uac_topology.proofs.Clustered.{with_own_clusters-at, length-with_own_clusters, same_place}
 use Rattle.uac_topology.proofs.SettingLinks.{right_at, usb_there}
 use Rattle.uac_topology.proofs.Ranges.{All-filter_map, not_false}
@@ -40,7 +40,7 @@ use Rattle.uac_device.specs.Linked.{AreLinked}
 -- ---- the rules that are used
 
 ids_above : (blocks : List block.Block) → IsSound blocks → (k : ℕ) → k < length (entities_of blocks) → breaks_u1 (entities_of blocks) k ≡ false
-unfolding first_broken rule_fault
+unfolding first_fault_of rule_fault
 ids_above blocks sound =
     let es = entities_of blocks in
     breaks_none 1 es breaks_u1 (has_names es (or_none (broken_names es) _ sound).0).u1

@@ -19,7 +19,7 @@ use Rattle.uac_store.specs.declared.keys.Key.{Key}
 use Rattle.uac_graph.specs.GraphControls.{Controls, controls_in}
 use Rattle.uac_graph.specs.Fitness.{IsSignalGraph}
 use Rattle.uac_graph.specs.Meaning.{entity, frame_of, meaning, samples, samples_by}
-use Rattle.uac_graph.specs.Needs.{depends_on, is_end, needed}
+use Rattle.uac_graph.specs.Needs.{depends_on, is_end, needed_units}
 use Rattle.uac_graph.specs.Wiring.{AreGiven, AreRendered, AreSilent, Frames, frame_on, samples_on, silence}
 use Rattle.uac_graph.proofs.Equation.{samples_by-same}
 use Rattle.uac_graph.proofs.Links.{entity_past, place_or_none}
@@ -30,9 +30,9 @@ use Rattle.uac_alt.specs.declared.settings.InterfaceSetting.{InterfaceSetting}
 use Rattle.uac_device.specs.declared.clocks.DomainClock.{DomainClock}
 use Rattle.uac_entities.specs.declared.stream.StreamInterface.{StreamInterface}
 use Rattle.uac_flow.specs.FlowStreams.{next_taken}
-use Rattle.uac_lanes.specs.declared.lane.DeviceStream.{DeviceStream}
-use Rattle.uac_lanes.specs.Lanes.{LaneStands, LanesStand, idle_lane, port_of}
-use Rattle.uac_device.specs.DeviceWorld.{DeviceWorld, at_rest, entity_in, fresh, heard_of, input_of, is_input_jack, is_jack, is_output_jack, is_streamed, played_at, renders_of, set_jack, stream_to, streamed_frame, after_tick}
+use Rattle.uac_device_streams.specs.declared.device_stream.DeviceStream.{DeviceStream}
+use Rattle.uac_device_streams.specs.DeviceStreams.{DeviceStreamStands, DeviceStreamsStand, idle_stream, port_of}
+use Rattle.uac_device.specs.DeviceWorld.{DeviceWorld, resting_domain, entity_in, fresh, heard_of, input_of, is_input_jack, is_jack, is_output_jack, is_streamed, played_at, renders_of, set_jack, stream_to, streamed_frame, after_tick}
 use Rattle.uac_device.specs.DeviceKept.{DeviceFields, IsDevice, DeviceStands, clock_of}
 use Rattle.uac_device.specs.DeviceTurns.{frames_heard, jacks_of, resting_clock}
 use Rattle.uac_device.proofs.Heard.{heard_told}
@@ -40,9 +40,9 @@ use Rattle.uac_device.proofs.GivenFrames.{apart}
 
 -- ---- renders
 
-pub renders_here : (device : DeviceFields) (w : DeviceWorld) (domain : ℕ) → DeviceStands device w → length (needed device.function.entities domain) ≡ renders_of domain w
+pub renders_here : (device : DeviceFields) (w : DeviceWorld) (domain : ℕ) → DeviceStands device w → length (needed_units device.function.entities domain) ≡ renders_of domain w
 unfolding renders_of
-renders_here device w domain stands = ap (λ (f : FunctionFields). length (needed f.entities domain)) stands.function
+renders_here device w domain stands = ap (λ (f : FunctionFields). length (needed_units f.entities domain)) stands.function
 
 -- ---- the start
 
@@ -50,29 +50,29 @@ silent_wire : (entities : List Entity) (frames : Frames) (id : ℕ) → AreSilen
     → frame_on frames id ≡ Some (silence (entity entities id).cluster.channels)
 silent_wire entities frames id silent signal = silent.wires id ∙ ap (option_map silence) (signal_channels entities id signal)
 
-resting_kept : (ds : List ℕ) → map resting_clock ds ≡ map clock_of (map at_rest ds)
+resting_kept : (ds : List ℕ) → map resting_clock ds ≡ map clock_of (map resting_domain ds)
 resting_kept [] = refl
 resting_kept (d ∷ ds) = ap (λ clocks. resting_clock d ∷ clocks) (resting_kept ds)
 
--- idle lanes keep no stream
+-- idle interfaces run no stream
 idle_keep : (entities : List Entity) (streams : List StreamInterface)
-    → LanesStand (map (λ s. idle_lane (port_of entities s)) streams) (λ interface. None) (λ interface. None)
+    → DeviceStreamsStand (map (λ s. idle_stream (port_of entities s)) streams) (λ interface. None) (λ interface. None)
 idle_keep entities streams = record {
-  each = All-map (λ (l : DeviceStream). LaneStands l None None) (λ s. idle_lane (port_of entities s)) streams (λ k d below. (refl, refl));
+  each = All-map (λ (l : DeviceStream). DeviceStreamStands l None None) (λ s. idle_stream (port_of entities s)) streams (λ k d below. (refl, refl));
   none = λ interface nowhere. (refl, refl);
 }
 
-pub fresh_stands : (function : FunctionFields) (controls : List (Key × ℤ)) (settings : List InterfaceSetting) (clocks : List DomainClock) (wires : Frames) (lanes : List DeviceStream)
+pub fresh_stands : (function : FunctionFields) (controls : List (Key × ℤ)) (settings : List InterfaceSetting) (clocks : List DomainClock) (wires : Frames) (device_streams : List DeviceStream)
     → controls ≡ initial_controls function.entities → settings ≡ initial_settings function → clocks ≡ map resting_clock function.domains
-    → AreSilent function.entities wires → lanes ≡ map (λ s. idle_lane (port_of function.entities s)) function.streams
-    → DeviceStands (record { function = function; controls = controls; settings = settings; clocks = clocks; wires = wires; lanes = lanes }) (fresh function)
+    → AreSilent function.entities wires → device_streams ≡ map (λ s. idle_stream (port_of function.entities s)) function.streams
+    → DeviceStands (record { function = function; controls = controls; settings = settings; clocks = clocks; wires = wires; device_streams = device_streams }) (fresh function)
 unfolding fresh
-fresh_stands function controls settings clocks wires lanes start first resting silent idle = record {
+fresh_stands function controls settings clocks wires device_streams start first resting silent idle = record {
   function = refl;
   controls = start;
   settings = first;
   clocks = resting ∙ resting_kept function.domains;
-  streams = subst (λ (ls : List DeviceStream). LanesStand ls (λ interface. None) (λ interface. None)) (sym idle) (idle_keep function.entities function.streams);
+  streams = subst (λ (ls : List DeviceStream). DeviceStreamsStand ls (λ interface. None) (λ interface. None)) (sym idle) (idle_keep function.entities function.streams);
   unlinked = λ id input other nowhere. refl;
   inputs = λ id input. silent_wire function.entities wires id silent (input_signal (entity function.entities id).kind input);
   outputs = λ id output. silent_wire function.entities wires id silent (output_signal (entity function.entities id).kind output);
@@ -247,10 +247,10 @@ module _ (device : DeviceFields) (mid wires : Frames) (domain : ℕ) (w : Device
       either true now old before e = refl
       either false now old before e = e
 
-  pub tick_stands : (lanes : List DeviceStream) → LanesStand lanes (after_tick domain w).outs (after_tick domain w).ins → DeviceStands device w
-      → DeviceStands (record device { wires = wires; lanes = lanes }) (after_tick domain w)
+  pub tick_stands : (device_streams : List DeviceStream) → DeviceStreamsStand device_streams (after_tick domain w).outs (after_tick domain w).ins → DeviceStands device w
+      → DeviceStands (record device { wires = wires; device_streams = device_streams }) (after_tick domain w)
   unfolding after_tick
-  tick_stands lanes keeps stands = record {
+  tick_stands device_streams keeps stands = record {
     function = stands.function;
     controls = stands.controls;
     settings = stands.settings;

@@ -8,15 +8,15 @@ use Rattle.uac_entities.specs.declared.stream.StreamInterface.{StreamInterface}
 use Rattle.uac_topology_rules.specs.Clusters.{is_input}
 use Rattle.uac_graph.specs.Wiring.{Frames, silence}
 use Rattle.uac_flow.specs.FlowStreams.{OutStream, InStream, after_putting, after_taking, is_dry, is_full, next_taken}
-use Rattle.uac_lanes.specs.declared.ticking.Ticked.{Ticked}
-use Rattle.uac_lanes.specs.InterfaceStreams.{NoneRuns, bits_of, changed_where}
+use Rattle.uac_device_streams.specs.declared.ticking.Ticked.{Ticked}
+use Rattle.uac_device_streams.specs.InterfaceStreams.{NoneRuns, bits_of, changed_where}
 use Rattle.uac_device.specs.DeviceWorld.{DeviceWorld, entity_in, input_of, is_input_jack, is_jack, is_on, is_streamed, met_of, played_to, set_jack, streamed_frame, after_tick}
 use Rattle.uac_device.specs.DeviceKept.{DeviceFields, IsDevice, DeviceStands}
 use Rattle.uac_topology.specs.FunctionKept.{AreNumbered, HaveChannels}
-use Rattle.uac_lanes.specs.Lanes.{ports}
-use Rattle.uac_lanes.specs.declared.lane.DeviceStream.{DeviceStream}
+use Rattle.uac_device_streams.specs.DeviceStreams.{ports}
+use Rattle.uac_device_streams.specs.declared.device_stream.DeviceStream.{DeviceStream}
 use Rattle.uac_device.specs.Linked.{AreLinked}
-use Rattle.uac_device.specs.Stillness.{HasBegun, HasEnded, IsStill}
+use Rattle.uac_device.specs.Stillness.{HasBegun, TickHasEnded, IsStill}
 use Rattle.uac_device.proofs.Played.{Rendered, tick_stands}
 use Rattle.uac_device.proofs.Streaming.{same_streams}
 use Rattle.uac_device.proofs.TickInputs.{met_here, ticked_stands}
@@ -109,32 +109,32 @@ still_stands device wires domain w rendered still stands =
       inputs = λ id input. stands.inputs id input ∙ ap (λ (f : List ℤ). Some f) (sym (given_stays domain w id still));
       outputs = stands.outputs;
     })
-    stands.function stands.controls device.lanes
-    (same_streams device.lanes w.outs (after_tick domain w).outs w.ins (after_tick domain w).ins stands.streams
+    stands.function stands.controls device.device_streams
+    (same_streams device.device_streams w.outs (after_tick domain w).outs w.ins (after_tick domain w).ins stands.streams
     (λ k. none_where (is_on w domain) (λ interface. after_taking) w.outs k (still.none k).0 ∙ sym (still.none k).0)
     (λ k. none_where (is_on w domain) (λ interface. after_putting (played_to w (after_tick domain w).played interface)) w.ins k (still.none k).1 ∙ sym (still.none k).1))
     stands
 
 -- ---- a tick, of a device that may be still
 
-module _ (still : Bool) (device : DeviceFields) (mid wires : Frames) (between lanes : List DeviceStream) (domain : ℕ) (w : DeviceWorld) (found : Ticked) where
+module _ (still : Bool) (device : DeviceFields) (mid wires : Frames) (between device_streams : List DeviceStream) (domain : ℕ) (w : DeviceWorld) (found : Ticked) where
   -- nothing was begun
   abbrev Rests : Type 0
-  Rests = still ≡ true → (between ≡ device.lanes) × (mid ≡ device.wires) × (found ≡ record { under = 0; over = 0 })
+  Rests = still ≡ true → (between ≡ device.device_streams) × (mid ≡ device.wires) × (found ≡ record { under = 0; over = 0 })
 
   pub ticked_or_still : AreNumbered device.function → AreLinked device.function → HaveChannels device.function.entities → IsDevice device
-      → Rendered device mid wires domain → ports between ≡ ports device.lanes → (still ≡ false → HasBegun domain device.lanes between device.wires mid found) → Rests
-      → (still ≡ false → HasEnded domain between lanes wires) → (still ≡ true → lanes ≡ between) → (still ≡ true → IsStill domain w) → DeviceStands device w
-      → DeviceStands (record device { wires = wires; lanes = lanes }) (after_tick domain w)
+      → Rendered device mid wires domain → ports between ≡ ports device.device_streams → (still ≡ false → HasBegun domain device.device_streams between device.wires mid found) → Rests
+      → (still ≡ false → TickHasEnded domain between device_streams wires) → (still ≡ true → device_streams ≡ between) → (still ≡ true → IsStill domain w) → DeviceStands device w
+      → DeviceStands (record device { wires = wires; device_streams = device_streams }) (after_tick domain w)
   ticked_or_still numbered linked have is rendered same begun rests ended left quiet stands =
       elim (cases_Bool still) [
         | inl rested ↦
             (let kept = rests rested in
             let own : Rendered device device.wires wires domain = subst (λ (frames : Frames). Rendered device frames wires domain) kept.1 rendered in
-            subst (λ (ls : List DeviceStream). DeviceStands (record device { wires = wires; lanes = ls }) (after_tick domain w)) (sym (left rested ∙ kept.0))
+            subst (λ (ls : List DeviceStream). DeviceStands (record device { wires = wires; device_streams = ls }) (after_tick domain w)) (sym (left rested ∙ kept.0))
             (still_stands device wires domain w own (quiet rested) stands))
         | inr moves ↦
-            ticked_stands device mid wires between lanes domain w numbered linked have is
+            ticked_stands device mid wires between device_streams domain w numbered linked have is
             (record {
               frames = (begun moves).frames;
               given = (begun moves).stands;
@@ -146,8 +146,8 @@ module _ (still : Bool) (device : DeviceFields) (mid wires : Frames) (between la
       ]
 
 module _ (still : Bool) (device : DeviceFields) (mid : Frames) (between : List DeviceStream) (domain : ℕ) (w : DeviceWorld) (found : Ticked) where
-  pub found_or_still : AreNumbered device.function → IsDevice device → (still ≡ false → HasBegun domain device.lanes between device.wires mid found)
-      → (still ≡ true → (between ≡ device.lanes) × (mid ≡ device.wires) × (found ≡ record { under = 0; over = 0 })) → (still ≡ true → IsStill domain w) → DeviceStands device w
+  pub found_or_still : AreNumbered device.function → IsDevice device → (still ≡ false → HasBegun domain device.device_streams between device.wires mid found)
+      → (still ≡ true → (between ≡ device.device_streams) × (mid ≡ device.wires) × (found ≡ record { under = 0; over = 0 })) → (still ≡ true → IsStill domain w) → DeviceStands device w
       → found ≡ met_of domain w
   found_or_still numbered is begun rests quiet stands =
       elim (cases_Bool still) [

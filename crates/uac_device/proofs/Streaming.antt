@@ -1,4 +1,4 @@
--- A device whose lanes change stands for the world in which their streams do.
+-- A device whose streams change stands for the world in which they do.
 use Rattle.std.proofs.Common.{◌≡◌, ◌∙◌, sym, refl, ap, subst, arith, ℕ, ◌<◌, ◌≤◌, ◌==◌, ◌||◌, Bool, true, false, nat_eq, ℤ, List, [], ◌∷◌, Option, Some, None, length, get_or, map, inl, inr}
 use Rattle.std.specs.List.{All, find, list_any}
 use Rattle.std.specs.Option.{option_map, option_map_or}
@@ -15,18 +15,18 @@ use Rattle.uac_graph.specs.Wiring.{AreWiresOf, Frames, frame_on}
 use Rattle.uac_graph.proofs.Ticking.{input_signal, output_signal}
 use Rattle.uac_graph.proofs.Walking.{signal_channels}
 use Rattle.uac_flow.specs.FlowStreams.{InStream, OutStream, after_packet, after_sending, settled_in, settled_out}
-use Rattle.uac_lanes.specs.declared.lane.DeviceStream.{DeviceStream}
-use Rattle.uac_lanes.specs.declared.lane.Port.{Port}
-use Rattle.uac_lanes.specs.InterfaceStreams.{NoneRuns, changed_at, runs_either}
+use Rattle.uac_device_streams.specs.declared.device_stream.DeviceStream.{DeviceStream}
+use Rattle.uac_device_streams.specs.declared.device_stream.Port.{Port}
+use Rattle.uac_device_streams.specs.InterfaceStreams.{NoneRuns, changed_at, runs_either}
 use Rattle.uac_device.specs.DeviceWorld.{DeviceWorld, is_on, played_to, after_receiving, after_sending_packet, after_settling}
 use Rattle.uac_device.specs.DeviceKept.{DeviceFields, IsDevice, DeviceStands}
 use Rattle.uac_device.specs.Linked.{AreLinked}
-use Rattle.uac_lanes.specs.Lanes.{LaneStands, LanesStand, WiredIn, WiredOut, idle_lane, port_of, ports}
+use Rattle.uac_device_streams.specs.DeviceStreams.{DeviceStreamStands, DeviceStreamsStand, WiredIn, WiredOut, idle_stream, port_of, ports}
 use Rattle.uac_device.proofs.GivenFrames.{find_own}
 
-pub stands_streams : (device : DeviceFields) (lanes : List DeviceStream) (w : DeviceWorld) (outs : ℕ → Option OutStream) (ins : ℕ → Option InStream) → DeviceStands device w
-    → LanesStand lanes outs ins → DeviceStands (record device { lanes = lanes }) (record w { outs = outs; ins = ins })
-stands_streams device lanes w outs ins stands keeps = record {
+pub stands_streams : (device : DeviceFields) (device_streams : List DeviceStream) (w : DeviceWorld) (outs : ℕ → Option OutStream) (ins : ℕ → Option InStream) → DeviceStands device w
+    → DeviceStreamsStand device_streams outs ins → DeviceStands (record device { device_streams = device_streams }) (record w { outs = outs; ins = ins })
+stands_streams device device_streams w outs ins stands keeps = record {
   function = stands.function;
   controls = stands.controls;
   settings = stands.settings;
@@ -44,14 +44,14 @@ pub one_port_runs : (outs : ℕ → Option OutStream) (ins : ℕ → Option InSt
 one_port_runs outs ins entities [] = refl
 one_port_runs outs ins entities (s ∷ ss) = ap (λ (b : Bool). runs_either (outs s.number) (ins s.number) || b) (one_port_runs outs ins entities ss)
 
--- lanes keep streams of which each is as it was
-pub same_streams : (lanes : List DeviceStream) (outs others : ℕ → Option OutStream) (ins more : ℕ → Option InStream) → LanesStand lanes outs ins → ((k : ℕ) → others k ≡ outs k)
-    → ((k : ℕ) → more k ≡ ins k) → LanesStand lanes others more
-same_streams lanes outs others ins more keeps same alike = record {
+-- device streams stand for streams of which each is as it was
+pub same_streams : (device_streams : List DeviceStream) (outs others : ℕ → Option OutStream) (ins more : ℕ → Option InStream) → DeviceStreamsStand device_streams outs ins → ((k : ℕ) → others k ≡ outs k)
+    → ((k : ℕ) → more k ≡ ins k) → DeviceStreamsStand device_streams others more
+same_streams device_streams outs others ins more keeps same alike = record {
   each = λ place d below.
-      let n = (get_or lanes place d).port.interface in
-      subst (λ (o : Option OutStream). LaneStands (get_or lanes place d) o (more n)) (sym (same n))
-      (subst (λ (i : Option InStream). LaneStands (get_or lanes place d) (outs n) i) (sym (alike n)) (keeps.each place d below));
+      let n = (get_or device_streams place d).port.interface in
+      subst (λ (o : Option OutStream). DeviceStreamStands (get_or device_streams place d) o (more n)) (sym (same n))
+      (subst (λ (i : Option InStream). DeviceStreamStands (get_or device_streams place d) (outs n) i) (sym (alike n)) (keeps.each place d below));
   none = λ k is. let before = keeps.none k is in (same k ∙ before.0, alike k ∙ before.1);
 }
 
@@ -68,29 +68,29 @@ none_settled w interface none k =
 pub quiet_settled : (device : DeviceFields) (w : DeviceWorld) (interface : ℕ) → NoneRuns w.outs w.ins → DeviceStands device w → DeviceStands device (after_settling interface w)
 unfolding after_settling
 quiet_settled device w interface none stands =
-    stands_streams device device.lanes w (changed_at interface settled_out w.outs) (changed_at interface settled_in w.ins) stands
-    (same_streams device.lanes w.outs (changed_at interface settled_out w.outs) w.ins (changed_at interface settled_in w.ins) stands.streams
+    stands_streams device device.device_streams w (changed_at interface settled_out w.outs) (changed_at interface settled_in w.ins) stands
+    (same_streams device.device_streams w.outs (changed_at interface settled_out w.outs) w.ins (changed_at interface settled_in w.ins) stands.streams
     (λ k. none_changed interface k settled_out w.outs (none k).0 ∙ sym (none k).0) (λ k. none_changed interface k settled_in w.ins (none k).1 ∙ sym (none k).1))
 
-pub received_stands : (device : DeviceFields) (lanes : List DeviceStream) (w : DeviceWorld) (interface : ℕ) (packet : Option (List ℕ)) → DeviceStands device w
-    → LanesStand lanes (changed_at interface (after_packet packet) w.outs) w.ins → DeviceStands (record device { lanes = lanes }) (after_receiving interface packet w)
+pub received_stands : (device : DeviceFields) (device_streams : List DeviceStream) (w : DeviceWorld) (interface : ℕ) (packet : Option (List ℕ)) → DeviceStands device w
+    → DeviceStreamsStand device_streams (changed_at interface (after_packet packet) w.outs) w.ins → DeviceStands (record device { device_streams = device_streams }) (after_receiving interface packet w)
 unfolding after_receiving
-received_stands device lanes w interface packet stands keeps = stands_streams device lanes w (changed_at interface (after_packet packet) w.outs) w.ins stands keeps
+received_stands device device_streams w interface packet stands keeps = stands_streams device device_streams w (changed_at interface (after_packet packet) w.outs) w.ins stands keeps
 
-pub sent_stands : (device : DeviceFields) (lanes : List DeviceStream) (w : DeviceWorld) (interface : ℕ) → DeviceStands device w
-    → LanesStand lanes w.outs (changed_at interface after_sending w.ins) → DeviceStands (record device { lanes = lanes }) (after_sending_packet interface w)
+pub sent_stands : (device : DeviceFields) (device_streams : List DeviceStream) (w : DeviceWorld) (interface : ℕ) → DeviceStands device w
+    → DeviceStreamsStand device_streams w.outs (changed_at interface after_sending w.ins) → DeviceStands (record device { device_streams = device_streams }) (after_sending_packet interface w)
 unfolding after_sending_packet
-sent_stands device lanes w interface stands keeps = stands_streams device lanes w w.outs (changed_at interface after_sending w.ins) stands keeps
+sent_stands device device_streams w interface stands keeps = stands_streams device device_streams w w.outs (changed_at interface after_sending w.ins) stands keeps
 
-pub settled_stands : (device : DeviceFields) (lanes : List DeviceStream) (w : DeviceWorld) (interface : ℕ) → DeviceStands device w
-    → LanesStand lanes (changed_at interface settled_out w.outs) (changed_at interface settled_in w.ins) → DeviceStands (record device { lanes = lanes }) (after_settling interface w)
+pub settled_stands : (device : DeviceFields) (device_streams : List DeviceStream) (w : DeviceWorld) (interface : ℕ) → DeviceStands device w
+    → DeviceStreamsStand device_streams (changed_at interface settled_out w.outs) (changed_at interface settled_in w.ins) → DeviceStands (record device { device_streams = device_streams }) (after_settling interface w)
 unfolding after_settling
-settled_stands device lanes w interface stands keeps =
-    stands_streams device lanes w (changed_at interface settled_out w.outs) (changed_at interface settled_in w.ins) stands keeps
+settled_stands device device_streams w interface stands keeps =
+    stands_streams device device_streams w (changed_at interface settled_out w.outs) (changed_at interface settled_in w.ins) stands keeps
 
--- what every device keeps, with other lanes of the same ports
-pub device_with_lanes : (device : DeviceFields) (lanes : List DeviceStream) → IsDevice device → ports lanes ≡ ports device.lanes → IsDevice (record device { lanes = lanes })
-device_with_lanes device lanes is same = record {
+-- what every device keeps, with other streams of the same ports
+pub device_with_streams : (device : DeviceFields) (device_streams : List DeviceStream) → IsDevice device → ports device_streams ≡ ports device.device_streams → IsDevice (record device { device_streams = device_streams })
+device_with_streams device device_streams is same = record {
   store = is.store;
   interfaces = is.interfaces;
   wires = is.wires;
@@ -102,15 +102,15 @@ device_with_lanes device lanes is same = record {
 
 -- ---- the ports of a function
 
--- idle lanes have the ports of the interfaces
-pub ports_idle : (entities : List Entity) (streams : List StreamInterface) → ports (map (λ s. idle_lane (port_of entities s)) streams) ≡ map (port_of entities) streams
+-- idle streams have the ports of the interfaces
+pub ports_idle : (entities : List Entity) (streams : List StreamInterface) → ports (map (λ s. idle_stream (port_of entities s)) streams) ≡ map (port_of entities) streams
 ports_idle entities [] = refl
 ports_idle entities (s ∷ ss) = ap (λ ps. port_of entities s ∷ ps) (ports_idle entities ss)
 
 -- what holds of each interface's port holds of the ports
 all_ports : (P : Port → Type 0) (device : DeviceFields) → IsDevice device
     → ((k : ℕ) (d : StreamInterface) → k < length device.function.streams → P (port_of device.function.entities (get_or device.function.streams k d)))
-    → All P (ports device.lanes)
+    → All P (ports device.device_streams)
 all_ports P device is each =
     subst (All P) (sym is.ports)
     (λ k d below.
@@ -130,7 +130,7 @@ own_interface function k d numbered below =
 
 -- its terminal is of the domain of its clock
 pub ports_on : (device : DeviceFields) (w : DeviceWorld) (domain : ℕ) → AreNumbered device.function → IsDevice device → DeviceStands device w
-    → All (λ p. is_on w domain p.interface ≡ (p.domain == domain)) (ports device.lanes)
+    → All (λ p. is_on w domain p.interface ≡ (p.domain == domain)) (ports device.device_streams)
 ports_on device w domain numbered is stands =
     all_ports (λ p. is_on w domain p.interface ≡ (p.domain == domain)) device is
     (λ k d below.
@@ -140,7 +140,7 @@ ports_on device w domain numbered is stands =
 
 -- a port that goes to the device has a wire, and so has one from an output terminal
 pub ports_wired_in : (device : DeviceFields) (wires : Frames) → AreLinked device.function → AreWiresOf device.function.entities wires → IsDevice device
-    → All (WiredIn wires) (ports device.lanes)
+    → All (WiredIn wires) (ports device.device_streams)
 ports_wired_in device wires linked fitting is =
     all_ports (WiredIn wires) device is
     (λ k d below out.
@@ -149,7 +149,7 @@ ports_wired_in device wires linked fitting is =
     fitting.channels t ∙ signal_channels device.function.entities t (input_signal (entity device.function.entities t).kind input)))
 
 pub ports_wired_out : (device : DeviceFields) (wires : Frames) → AreLinked device.function → AreWiresOf device.function.entities wires → IsDevice device
-    → All (WiredOut wires) (ports device.lanes)
+    → All (WiredOut wires) (ports device.device_streams)
 ports_wired_out device wires linked fitting is =
     all_ports (WiredOut wires) device is
     (λ k d below other some.
@@ -161,7 +161,7 @@ ports_wired_out device wires linked fitting is =
 pub ports_played : (device : DeviceFields) (wires : Frames) (w : DeviceWorld) (played : ℕ → List ℤ) → AreNumbered device.function → AreLinked device.function
     → IsDevice device → device.function ≡ w.function
     → ((id : ℕ) → is_output (entity w.function.entities id).kind ≡ true → frame_on wires id ≡ Some (played id))
-    → All (λ p. p.out ≡ false → 1 ≤ p.channels → frame_on wires p.terminal ≡ Some (played_to w played p.interface)) (ports device.lanes)
+    → All (λ p. p.out ≡ false → 1 ≤ p.channels → frame_on wires p.terminal ≡ Some (played_to w played p.interface)) (ports device.device_streams)
 ports_played device wires w played numbered linked is same outputs =
     all_ports (λ p. p.out ≡ false → 1 ≤ p.channels → frame_on wires p.terminal ≡ Some (played_to w played p.interface)) device is
     (λ k d below other some.

@@ -16,14 +16,14 @@ use Rattle.uac_graph.specs.Wiring.{AreWiresOf, Frames, frame_on}
 use Rattle.uac_graph.proofs.Links.{entity_past, place_or_none}
 use Rattle.uac_graph.proofs.Ticking.{input_signal}
 use Rattle.uac_flow.specs.FlowStreams.{InStream, OutStream, after_putting, after_taking, is_dry, is_full}
-use Rattle.uac_lanes.specs.declared.ticking.Ticked.{Ticked}
-use Rattle.uac_lanes.specs.declared.lane.DeviceStream.{DeviceStream}
-use Rattle.uac_lanes.specs.declared.lane.Port.{Port}
-use Rattle.uac_lanes.specs.InterfaceStreams.{bits_of, changed_where}
+use Rattle.uac_device_streams.specs.declared.ticking.Ticked.{Ticked}
+use Rattle.uac_device_streams.specs.declared.device_stream.DeviceStream.{DeviceStream}
+use Rattle.uac_device_streams.specs.declared.device_stream.Port.{Port}
+use Rattle.uac_device_streams.specs.InterfaceStreams.{bits_of, changed_where}
 use Rattle.uac_device.specs.DeviceWorld.{DeviceWorld, entity_in, input_of, is_on, is_streamed, met_of, played_to, after_tick}
 use Rattle.uac_device.specs.DeviceKept.{DeviceFields, IsDevice, DeviceStands}
 use Rattle.uac_device.specs.Linked.{AreLinked}
-use Rattle.uac_lanes.specs.Lanes.{LanesStand, found_dry, found_full, given_by, met_by, port_of, ports}
+use Rattle.uac_device_streams.specs.DeviceStreams.{DeviceStreamsStand, found_dry, found_full, given_by, met_by, port_of, ports}
 use Rattle.uac_device.proofs.GivenFrames.{apart, given_input, given_nothing}
 use Rattle.uac_device.proofs.Played.{Mid, Rendered, outputs_after, tick_stands}
 use Rattle.uac_device.proofs.Streaming.{own_interface, ports_on, ports_played}
@@ -46,7 +46,7 @@ unstreamed domain e output = by (is_streamed domain e) refl
     by false streamed = refl
 
 pub mid_of : (device : DeviceFields) (mid : Frames) (domain : ℕ) (w : DeviceWorld) → AreLinked device.function → HaveChannels device.function.entities → IsDevice device
-    → DeviceStands device w → ((id : ℕ) → frame_on mid id ≡ given_by domain id w.outs (ports device.lanes) (frame_on device.wires id)) → Mid mid domain w
+    → DeviceStands device w → ((id : ℕ) → frame_on mid id ≡ given_by domain id w.outs (ports device.device_streams) (frame_on device.wires id)) → Mid mid domain w
 mid_of device mid domain w linked have is stands frames = record { inputs = inputs; outputs = outputs }
   where
     linked_here : AreLinked w.function
@@ -55,7 +55,7 @@ mid_of device mid domain w linked have is stands frames = record { inputs = inpu
     have_here : HaveChannels w.function.entities
     have_here = subst (λ (f : FunctionFields). HaveChannels f.entities) stands.function have
 
-    ports_here : ports device.lanes ≡ map (port_of w.function.entities) w.function.streams
+    ports_here : ports device.device_streams ≡ map (port_of w.function.entities) w.function.streams
     ports_here = is.ports ∙ ap (λ (f : FunctionFields). map (port_of f.entities) f.streams) stands.function
 
     from : (id : ℕ) → frame_on mid id ≡ given_by domain id w.outs (map (port_of w.function.entities) w.function.streams) (frame_on device.wires id)
@@ -76,10 +76,10 @@ pub wires_kept : (entities : List Entity) (old new : Frames) → AreWiresOf enti
     → ((id : ℕ) → option_map length (frame_on new id) ≡ option_map length (frame_on old id)) → AreWiresOf entities new
 wires_kept entities old new fitting same = record { channels = λ id. same id ∙ fitting.channels id }
 
--- what every device keeps, with other frames and lanes of the same ports
-pub device_with_wires : (device : DeviceFields) (wires : Frames) (lanes : List DeviceStream) → IsDevice device → AreWiresOf device.function.entities wires
-    → ports lanes ≡ ports device.lanes → IsDevice (record device { wires = wires; lanes = lanes })
-device_with_wires device wires lanes is fitting same = record {
+-- what every device keeps, with other frames and streams of the same ports
+pub device_with_wires : (device : DeviceFields) (wires : Frames) (device_streams : List DeviceStream) → IsDevice device → AreWiresOf device.function.entities wires
+    → ports device_streams ≡ ports device.device_streams → IsDevice (record device { wires = wires; device_streams = device_streams })
+device_with_wires device wires device_streams is fitting same = record {
   store = is.store;
   interfaces = is.interfaces;
   wires = fitting;
@@ -89,32 +89,32 @@ device_with_wires device wires lanes is fitting same = record {
   ports = same ∙ is.ports;
 }
 
--- there are as many lanes as interfaces
-pub lanes_few : (device : DeviceFields) → IsDevice device → length device.function.streams ≤ 8 → length device.lanes ≤ 8
-lanes_few device is few =
-    omega (arith, few, sym (length-map device.lanes (λ (l : DeviceStream). l.port)) ∙ ap length is.ports ∙ length-map device.function.streams (port_of device.function.entities))
+-- there are as many device streams as interfaces
+pub streams_few : (device : DeviceFields) → IsDevice device → length device.function.streams ≤ 8 → length device.device_streams ≤ 8
+streams_few device is few =
+    omega (arith, few, sym (length-map device.device_streams (λ (l : DeviceStream). l.port)) ∙ ap length is.ports ∙ length-map device.function.streams (port_of device.function.entities))
 
 -- what the parts of a tick did: the terminals of the bus took their frames, the graph was rendered, and the streams took what was played
-pub record Turned (device : DeviceFields) (mid wires : Frames) (between lanes : List DeviceStream) (domain : ℕ) : Type 0 where
+pub record Turned (device : DeviceFields) (mid wires : Frames) (between device_streams : List DeviceStream) (domain : ℕ) : Type 0 where
   pub frames :
-      (outs : ℕ → Option OutStream) (ins : ℕ → Option InStream) → LanesStand device.lanes outs ins
-      → (id : ℕ) → frame_on mid id ≡ given_by domain id outs (ports device.lanes) (frame_on device.wires id)
+      (outs : ℕ → Option OutStream) (ins : ℕ → Option InStream) → DeviceStreamsStand device.device_streams outs ins
+      → (id : ℕ) → frame_on mid id ≡ given_by domain id outs (ports device.device_streams) (frame_on device.wires id)
   pub given :
-      (on : ℕ → Bool) (outs : ℕ → Option OutStream) (ins : ℕ → Option InStream) → All (λ p. on p.interface ≡ (p.domain == domain)) (ports device.lanes)
-      → LanesStand device.lanes outs ins → LanesStand between (changed_where on (λ interface. after_taking) outs) ins
-  pub same : ports between ≡ ports device.lanes
+      (on : ℕ → Bool) (outs : ℕ → Option OutStream) (ins : ℕ → Option InStream) → All (λ p. on p.interface ≡ (p.domain == domain)) (ports device.device_streams)
+      → DeviceStreamsStand device.device_streams outs ins → DeviceStreamsStand between (changed_where on (λ interface. after_taking) outs) ins
+  pub same : ports between ≡ ports device.device_streams
   pub rendered : Rendered device mid wires domain
   pub put :
       (on : ℕ → Bool) (played : ℕ → List ℤ) (outs : ℕ → Option OutStream) (ins : ℕ → Option InStream) → All (λ p. on p.interface ≡ (p.domain == domain)) (ports between)
       → All (λ p. p.out ≡ false → 1 ≤ p.channels → frame_on wires p.terminal ≡ Some (played p.interface)) (ports between)
-      → LanesStand between outs ins → LanesStand lanes outs (changed_where on (λ interface. after_putting (played interface)) ins)
+      → DeviceStreamsStand between outs ins → DeviceStreamsStand device_streams outs (changed_where on (λ interface. after_putting (played interface)) ins)
 
-pub ticked_stands : (device : DeviceFields) (mid wires : Frames) (between lanes : List DeviceStream) (domain : ℕ) (w : DeviceWorld) → AreNumbered device.function → AreLinked device.function
-    → HaveChannels device.function.entities → IsDevice device → Turned device mid wires between lanes domain → DeviceStands device w
-    → DeviceStands (record device { wires = wires; lanes = lanes }) (after_tick domain w)
+pub ticked_stands : (device : DeviceFields) (mid wires : Frames) (between device_streams : List DeviceStream) (domain : ℕ) (w : DeviceWorld) → AreNumbered device.function → AreLinked device.function
+    → HaveChannels device.function.entities → IsDevice device → Turned device mid wires between device_streams domain → DeviceStands device w
+    → DeviceStands (record device { wires = wires; device_streams = device_streams }) (after_tick domain w)
 unfolding after_tick
-ticked_stands device mid wires between lanes domain w numbered linked have is turned stands =
-    tick_stands device mid wires domain w turned.rendered given stands.function stands.controls lanes
+ticked_stands device mid wires between device_streams domain w numbered linked have is turned stands =
+    tick_stands device mid wires domain w turned.rendered given stands.function stands.controls device_streams
     (turned.put (is_on w domain) (played_to w (after_tick domain w).played) (changed_where (is_on w domain) (λ interface. after_taking) w.outs) w.ins
     (subst (All (λ p. is_on w domain p.interface ≡ (p.domain == domain))) (sym turned.same) on)
     (subst (All (λ p. p.out ≡ false → 1 ≤ p.channels → frame_on wires p.terminal ≡ Some (played_to w (after_tick domain w).played p.interface))) (sym turned.same)
@@ -126,7 +126,7 @@ ticked_stands device mid wires between lanes domain w numbered linked have is tu
     given : Mid mid domain w
     given = mid_of device mid domain w linked have is stands (turned.frames w.outs w.ins stands.streams)
 
-    on : All (λ p. is_on w domain p.interface ≡ (p.domain == domain)) (ports device.lanes)
+    on : All (λ p. is_on w domain p.interface ≡ (p.domain == domain)) (ports device.device_streams)
     on = ports_on device w domain numbered is stands
 
 -- what it met
@@ -139,7 +139,7 @@ same_bits entities f g (s ∷ ss) same =
     ∙ ap (λ (bs : List Bool). g s ∷ bs) (same_bits entities f g ss (λ k d below. same (suc k) d (omega (arith, below))))
 
 pub met_here : (device : DeviceFields) (w : DeviceWorld) (domain : ℕ) → AreNumbered device.function → IsDevice device → DeviceStands device w
-    → met_by domain w.outs w.ins (ports device.lanes) ≡ met_of domain w
+    → met_by domain w.outs w.ins (ports device.device_streams) ≡ met_of domain w
 unfolding met_of
 met_here device w domain numbered is stands =
     ap (met_by domain w.outs w.ins) (is.ports ∙ ap (λ (f : FunctionFields). map (port_of f.entities) f.streams) stands.function)

@@ -15,10 +15,10 @@ use Rattle.uac_store.specs.Keyed.{value_of}
 use Rattle.uac_store.specs.Rates.{rate_of, rate_step, rate_within, source_rate}
 use Rattle.uac_graph.specs.Meaning.{entity, frame_of, meaning, samples, samples_by}
 use Rattle.std.specs.Int.{int_wrap}
-use Rattle.uac_pcm.specs.SampleWords.{cut, sample_of_word, word_of}
+use Rattle.uac_pcm.specs.Subslots.{cut_to, sample_of_subslot, subslot_of}
 use Rattle.uac_alt.specs.AltStreams.{StreamFields}
 use Rattle.uac_flow.specs.FlowStreams.{InStream, OutStream, after_packet, after_putting, after_sending, after_taking, arrival_of, feedback_of, is_due, sent_packet, settled_in, settled_out, started_out}
-use Rattle.uac_lanes.specs.InterfaceStreams.{bits_of}
+use Rattle.uac_device_streams.specs.InterfaceStreams.{bits_of}
 use Rattle.uac_device.specs.DeviceWorld.{DeviceWorld, after_advance, feedback_in, input_of, is_due_in, level_of, met_of, next_ticks, after_receiving, after_restart, after_sending_packet, after_settling, step_in, streamed_frame, target_of, after_tick}
 use Rattle.uac_flow.specs.declared.arrival.Arrival.TheVariants as arrival
 
@@ -142,7 +142,7 @@ packet = 1 ∷ 0 ∷ 254 ∷ 255 ∷ []
 
 -- a packet that comes, one that is lost, and one for which the ring has no room
 arrives : (arrival_of (Some packet) half ≡ arrival.Taken) × (after_packet (Some packet) half ≡ record half { arrived = half.arrived ++ (pos 65536 ∷ []) ∷ (negsuc 131071 ∷ []) ∷ [] })
-unfolding arrival_of after_packet half mono packet cut sample_of_word int_wrap
+unfolding arrival_of after_packet half mono packet cut_to sample_of_subslot int_wrap
 arrives = (refl, refl)
 
 is_lost : (arrival_of None half ≡ arrival.Lost) × (after_packet None half ≡ record half { lost = true })
@@ -158,7 +158,7 @@ is_over = (refl, refl)
 
 -- a packet from the device has all that lies in the ring, here one frame; of 14 frames it has the oldest 12
 sends : (sent_packet (record one_put { made = (pos 65536 ∷ []) ∷ [] }) ≡ 1 ∷ 0 ∷ []) × (after_sending one_put ≡ record one_put { gone = 1 })
-unfolding sent_packet after_sending one_put mono cut word_of
+unfolding sent_packet after_sending one_put mono cut_to subslot_of
 sends = (refl, refl)
 
 sends_most : (after_sending (record one_put { made = map (λ n. pos n ∷ []) (range_with_len 0 14) })).gone ≡ 12

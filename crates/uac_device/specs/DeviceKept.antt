@@ -11,9 +11,9 @@ use Rattle.uac_request.specs.declared.setup.Setup.{Setup}
 use Rattle.uac_alt.specs.declared.settings.InterfaceSetting.{InterfaceSetting}
 use Rattle.uac_graph.specs.Wiring.{Frames, AreWiresOf, frame_on, silence}
 use Rattle.uac_device.specs.declared.clocks.DomainClock.{DomainClock}
-use Rattle.uac_lanes.specs.declared.lane.DeviceStream.{DeviceStream}
+use Rattle.uac_device_streams.specs.declared.device_stream.DeviceStream.{DeviceStream}
 use Rattle.uac_device.specs.DeviceWorld.{Domain, DeviceWorld, after_control, entity_in, is_jack}
-use Rattle.uac_lanes.specs.Lanes.{LanesStand, port_of, ports}
+use Rattle.uac_device_streams.specs.DeviceStreams.{DeviceStreamsStand, port_of, ports}
 
 -- what a device is seen as: of its clocks it keeps the phase alone, and its frames are those on the wires
 pub record DeviceFields : Type 0 where
@@ -22,7 +22,7 @@ pub record DeviceFields : Type 0 where
   pub settings : List InterfaceSetting
   pub clocks : List DomainClock
   pub wires : Frames
-  pub lanes : List DeviceStream
+  pub device_streams : List DeviceStream
 
 -- how a clock domain is kept: the remainder of its steps stands for them all
 abbrev pub clock_of : Domain → DomainClock
@@ -35,7 +35,7 @@ pub record DeviceStands (device : DeviceFields) (w : DeviceWorld) : Type 0 where
   pub controls : device.controls ≡ w.controls
   pub settings : device.settings ≡ w.settings
   pub clocks : device.clocks ≡ map clock_of w.domains
-  pub streams : LanesStand device.lanes w.outs w.ins
+  pub streams : DeviceStreamsStand device.device_streams w.outs w.ins
   pub unlinked :
       (id : ℕ) → is_input (entity_in w id).kind ≡ true → is_jack (entity_in w id) ≡ false
       → find (λ s. s.terminal == id) w.function.streams ≡ None → w.given id ≡ silence (entity_in w id).cluster.channels
@@ -43,19 +43,19 @@ pub record DeviceStands (device : DeviceFields) (w : DeviceWorld) : Type 0 where
   pub outputs : (id : ℕ) → is_output (entity_in w id).kind ≡ true → frame_on device.wires id ≡ Some (w.played id)
 
 -- a clock is off by at most a tenth
-abbrev pub IsInRange : ℤ → Type 0
-IsInRange ppm = (negsuc 99999 ≤ℤ ppm) × (ppm ≤ℤ pos 100000)
+abbrev pub IsDeviationInRange : ℤ → Type 0
+IsDeviationInRange ppm = (negsuc 99999 ≤ℤ ppm) × (ppm ≤ℤ pos 100000)
 
 -- what every device keeps: a value for each control of its function, a setting for each interface, a frame for each wire, a clock
--- for each of its domains, in range, none a frame past its last tick, and a lane for each streaming interface in block order
+-- for each of its domains, in range, none a frame past its last tick, and a stream for each streaming interface in block order
 pub record IsDevice (device : DeviceFields) : Type 0 where
   pub store : IsStoreOf device.function.entities device.controls
   pub interfaces : AreSettingsOf device.function device.settings
   pub wires : AreWiresOf device.function.entities device.wires
   pub domains : map (λ c. c.domain) device.clocks ≡ device.function.domains
-  pub clocks : All (λ c. IsInRange c.deviation) device.clocks
+  pub clocks : All (λ c. IsDeviationInRange c.deviation) device.clocks
   pub phases : All (λ c. c.phase < 65536) device.clocks
-  pub ports : ports device.lanes ≡ map (port_of device.function.entities) device.function.streams
+  pub ports : ports device.device_streams ≡ map (port_of device.function.entities) device.function.streams
 
 -- what a control request makes of a device, and what it is told
 pub record IsControlled (p : Setup) (bytes : List ℕ) (told : AnswerFields) (old new : DeviceFields) : Type 0 where

@@ -16,14 +16,13 @@ use Rattle.uac_store.specs.StoreControls.{initial_controls}
 use Rattle.uac_store.specs.Rates.{rate_of}
 use Rattle.uac_graph.specs.GraphControls.{controls_in}
 use Rattle.uac_graph.specs.Meaning.{entity, meaning}
-use Rattle.uac_graph.specs.Needs.{is_end, needed}
+use Rattle.uac_graph.specs.Needs.{is_end, needed_units}
 use Rattle.uac_graph.specs.Wiring.{silence}
 use Rattle.uac_units.specs.Hearing.{Reading, after_hearing}
 use Rattle.uac_alt.specs.declared.settings.InterfaceSetting.{InterfaceSetting}
 use Rattle.uac_alt.specs.AltSettings.{initial_settings}
 use Rattle.uac_alt.specs.AltStreams.{StreamFields, stream_of}
-use Rattle.uac_request.specs.Requests.{AnswerFields, after_request, request_state, is_done, is_stalled, rate_at, reply_of}
-use Rattle.uac_request.specs.Requests.{sets_interface, with_bytes, with_descriptor}
+use Rattle.uac_request.specs.Requests.{after_request, request_state, is_done_answer, rate_at, reply_of, sets_interface}
 use Rattle.uac_request.specs.declared.setup.Setup.{Setup}
 use Rattle.uac_flow.specs.FlowStreams.{InStream, OutStream, after_packet, after_putting, after_sending, after_taking, after_ticks}
 use Rattle.uac_flow.specs.FlowStreams.{arrival_of}
@@ -31,9 +30,10 @@ use Rattle.uac_flow.specs.FlowStreams.{feedback_of, is_dry, is_full, next_taken,
 use Rattle.uac_flow.specs.Flows.{ZerosFit}
 use Rattle.uac_flow.specs.declared.arrival.Arrival.{Arrival}
 use Rattle.uac_flow.specs.declared.arrival.Arrival.TheVariants as arrival
-use Rattle.uac_lanes.specs.InterfaceStreams.{bits_of, changed_at, changed_where, either_due, in_from, level_in, out_from, replaced_at}
-use Rattle.uac_lanes.specs.InterfaceStreams.{runs_either}
-use Rattle.uac_lanes.specs.declared.ticking.Ticked.{Ticked}
+use Rattle.uac_device_streams.specs.InterfaceStreams.{bits_of, changed_at, changed_where, either_due, in_from, level_in, out_from}
+use Rattle.uac_device_streams.specs.InterfaceStreams.{replaced_at}
+use Rattle.uac_device_streams.specs.InterfaceStreams.{runs_either}
+use Rattle.uac_device_streams.specs.declared.ticking.Ticked.{Ticked}
 
 -- a clock domain: the clock that its terminals name, what that is off by in ppm, and its steps since the start, one
 -- for each microframe, in 65,536ths of a frame
@@ -79,8 +79,8 @@ is_output_jack_of domain e = is_end domain e && is_jack e
 
 -- ---- the start
 
-abbrev pub at_rest : ℕ → Domain
-at_rest domain = record { id = domain; deviation = pos 0; steps = [] }
+abbrev pub resting_domain : ℕ → Domain
+resting_domain domain = record { id = domain; deviation = pos 0; steps = [] }
 
 -- just after the descriptor was accepted: each control at its start value, each interface in setting 0, no clock off, no stream,
 -- and silence everywhere
@@ -90,7 +90,7 @@ fresh function =
       function = function;
       controls = initial_controls function.entities;
       settings = initial_settings function;
-      domains = map at_rest function.domains;
+      domains = map resting_domain function.domains;
       outs = λ interface. None;
       ins = λ interface. None;
       given = λ id. silence (entity function.entities id).cluster.channels;
@@ -190,7 +190,7 @@ after_tick domain w =
 
 -- how many renders a tick of a domain counts: one for each unit that the domain needs
 unfoldable pub renders_of : ℕ → DeviceWorld → ℕ
-renders_of domain w = length (needed w.function.entities domain)
+renders_of domain w = length (needed_units w.function.entities domain)
 
 -- the frames that the meters hear after a tick of a domain: those of its output jacks, in block order
 unfoldable pub heard_of : ℕ → DeviceWorld → List (List ℤ)
@@ -254,12 +254,6 @@ feedback_in w interface = option_and_then feedback_of (w.outs interface)
 
 -- ---- requests
 
-abbrev pub tells_done : AnswerFields → Bool
-tells_done (with_bytes bytes) = false
-tells_done (with_descriptor from to) = false
-tells_done is_done = true
-tells_done (is_stalled rule) = false
-
 -- the stream of an interface in a setting, at the rate of its terminal's clock
 unfoldable pub stream_in_setting : FunctionFields → List (Key × ℤ) → ℕ → ℕ → Option StreamFields
 stream_in_setting function controls interface setting =
@@ -280,6 +274,6 @@ after_control p bytes w =
     let held = request_state w.controls w.settings in
     let after = after_request w.function held p bytes in
     let asked = record w { controls = after.controls; settings = after.settings } in
-    if sets_interface p && tells_done (reply_of w.function held p bytes)
+    if sets_interface p && is_done_answer (reply_of w.function held p bytes)
     then after_restart p.index (stream_in_setting w.function w.controls p.index p.value) asked
     else asked

@@ -21,17 +21,17 @@ use Rattle.uac_device.specs.DeviceTurns.{jacks_of}
 abbrev pub nominal_at : List Entity → List (Key × ℤ) → ℕ → Option Nominal
 nominal_at entities controls domain = option_and_then nominal_of (rate_of entities controls domain)
 
-abbrev pub IsPace : List Entity → List (Key × ℤ) → DomainRate → Type 0
-IsPace entities controls p = p.values ≡ nominal_at entities controls p.domain
+abbrev pub IsDomainRate : List Entity → List (Key × ℤ) → DomainRate → Type 0
+IsDomainRate entities controls p = p.values ≡ nominal_at entities controls p.domain
 
 -- the pace of a domain, renewed
-abbrev pub renewed_pace : List Entity → List (Key × ℤ) → DomainRate → DomainRate
-renewed_pace entities controls p = record { domain = p.domain; values = nominal_at entities controls p.domain }
+abbrev pub renewed_rate : List Entity → List (Key × ℤ) → DomainRate → DomainRate
+renewed_rate entities controls p = record { domain = p.domain; values = nominal_at entities controls p.domain }
 
 -- what is kept follows from these values of the controls
 pub record IsDerived (function : FunctionFields) (controls : List (Key × ℤ)) (derived : Derived) : Type 0 where
   pub asked : AreJobs function.entities (controls_in controls) derived.jobs
-  pub paced : All (IsPace function.entities controls) derived.paces.items
+  pub paced : All (IsDomainRate function.entities controls) derived.rates.items
   pub heard : derived.jacks.items ≡ jacks_of function.entities
 
 -- what a request can change: one to set a control the values of the entity that it names, and any other none

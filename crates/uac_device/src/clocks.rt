@@ -3,7 +3,7 @@ ghost use Rattle.std.specs.Prelude.{◌≡◌, ◌≤◌, ◌≤ℤ◌, negsuc, 
 ghost use Rattle.std.specs.List.{All};
 ghost use Rattle.uac_clock.specs.declared.values.Nominal.{Nominal};
 ghost use Rattle.uac_clock.specs.Nominal.{IsNominal};
-ghost use Rattle.uac_device.specs.DeviceKept.{IsInRange};
+ghost use Rattle.uac_device.specs.DeviceKept.{IsDeviationInRange};
 ghost use Rattle.uac_device.specs.DeviceTurns as spec;
 
 use std::alloc::Global;
@@ -59,7 +59,7 @@ fn deviate_one(clock: &mut DomainClock, domain: u8, ppm: i32)
 /// The clocks of a domain go on by one microframe, by the nominal values of its rate; without a rate they stand still.
 /// Answers the ticks of the first of them.
 pub(crate) fn advance(clocks: &mut [DomainClock], domain: u8, values: Option<Nominal>) -> u32
-    requires range { All (λ c. IsInRange c.deviation) clocks.old }
+    requires range { All (λ c. IsDeviationInRange c.deviation) clocks.old }
     requires of_a_rate { (nominal : Nominal) → values ≡ Some nominal → IsNominal nominal }
     ensures clocks { clocks.new ≡ map (spec.clock_after_advance domain values) clocks.old }
     ensures ticks { result ≡ spec.first_ticks domain values clocks.old }
@@ -73,7 +73,7 @@ pub(crate) fn advance(clocks: &mut [DomainClock], domain: u8, values: Option<Nom
 
 // The ticks of a clock that goes on, None where it is another domain's.
 fn advance_one(clock: &mut DomainClock, domain: u8, values: Option<Nominal>) -> Option<u32>
-    requires range { IsInRange clock.old.deviation }
+    requires range { IsDeviationInRange clock.old.deviation }
     requires of_a_rate { (nominal : Nominal) → values ≡ Some nominal → IsNominal nominal }
     ensures clock { clock.new ≡ spec.clock_after_advance domain values clock.old }
     ensures ticks { result ≡ spec.ticks_where domain values clock.old }

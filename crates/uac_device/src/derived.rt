@@ -7,7 +7,7 @@ ghost use Rattle.uac_topology_rules.specs.Links as links;
 ghost use Rattle.uac_clock.specs.declared.values.Nominal as values;
 ghost use Rattle.uac_store.specs.declared.keys.Key as keys;
 ghost use Rattle.uac_request.specs.Requests as requests;
-ghost use Rattle.uac_device.specs.Following.{IsDerived, IsLeftBy, IsPace, nominal_at, renewed_pace};
+ghost use Rattle.uac_device.specs.Following.{IsDerived, IsLeftBy, IsDomainRate, nominal_at, renewed_rate};
 
 use crate::hearing::{OutputJack, output_jacks};
 use std::alloc::Global;
@@ -26,12 +26,12 @@ pub struct DomainRate {
     pub values: Option<Nominal>,
 }
 
-/// What follows from the controls of a device, so that a tick looks up none: the jobs of its units, and the paces of its domains.
+/// What follows from the controls of a device, so that a tick looks up none: the jobs of its units, and the rates of its domains.
 /// Beside them stand its output jacks, so that a tick looks for none.
 #[derive(Drop)]
 pub struct Derived {
     pub(crate) jobs: Jobs,
-    pub(crate) paces: Vec<DomainRate>,
+    pub(crate) rates: Vec<DomainRate>,
     pub(crate) jacks: Vec<OutputJack>,
 }
 
@@ -47,9 +47,9 @@ impl Derived {
         ensures { IfOk result (λ derived. IsDerived function.now store.now derived) }
     {
         let jobs = graph.jobs(alloc, store)?;
-        let paces = paces_of(alloc, function, store)?;
+        let rates = domain_rates_of(alloc, function, store)?;
         let jacks = output_jacks(alloc, function.entities())?;
-        Ok(Derived { jobs, paces, jacks })
+        Ok(Derived { jobs, rates, jacks })
     }
 
     /// Follows what a request that was answered changed.
@@ -71,7 +71,7 @@ impl Derived {
         let id = (setup.index / 256) as u8;
         graph.renew(&mut self.jobs, store, id);
         if names_clock(function, id) {
-            renew(&mut self.paces, function, store);
+            renew(&mut self.rates, function, store);
         }
     }
 
@@ -87,9 +87,9 @@ impl Derived {
         requires { IsDerived function.now store.now self.now }
         ensures { result ≡ nominal_at function.now.entities store.now domain }
     {
-        for pace in &self.paces {
-            if pace.domain == domain {
-                return pace.values;
+        for rate in &self.rates {
+            if rate.domain == domain {
+                return rate.values;
             }
         }
         values_at(function, store, domain)
@@ -123,32 +123,36 @@ fn values_at(function: &Function, store: &Store, clock: u8) -> Option<Nominal>
     }
 }
 
-// The paces of a function's domains.
-fn paces_of(alloc: Global, function: &Function, store: &Store) -> Result<Vec<DomainRate>, NoMemory>
-    ensures { IfOk result (λ paces. All (IsPace function.now.entities store.now) paces.items) }
+// The rates of a function's domains.
+fn domain_rates_of(
+    alloc: Global,
+    function: &Function,
+    store: &Store,
+) -> Result<Vec<DomainRate>, NoMemory>
+    ensures { IfOk result (λ rates. All (IsDomainRate function.now.entities store.now) rates.items) }
 {
-    let mut paces = Vec::new(alloc);
+    let mut rates = Vec::new(alloc);
     for domain in function.domains() {
-        let pace = DomainRate {
+        let rate = DomainRate {
             domain: *domain,
             values: values_at(function, store, *domain),
         };
-        paces.push(pace)?;
+        rates.push(rate)?;
     }
-    Ok(paces)
+    Ok(rates)
 }
 
-// Renews each of these paces.
-fn renew(paces: &mut [DomainRate], function: &Function, store: &Store)
-    ensures { paces.new ≡ map (renewed_pace function.now.entities store.now) paces.old }
+// Renews each of these rates.
+fn renew(rates: &mut [DomainRate], function: &Function, store: &Store)
+    ensures { rates.new ≡ map (renewed_rate function.now.entities store.now) rates.old }
 {
-    for pace in paces.iter_mut() {
-        renew_one(pace, function, store);
+    for rate in rates.iter_mut() {
+        renew_one(rate, function, store);
     }
 }
 
-fn renew_one(pace: &mut DomainRate, function: &Function, store: &Store)
-    ensures { pace.new ≡ renewed_pace function.now.entities store.now pace.old }
+fn renew_one(rate: &mut DomainRate, function: &Function, store: &Store)
+    ensures { rate.new ≡ renewed_rate function.now.entities store.now rate.old }
 {
-    pace.values = values_at(function, store, pace.domain);
+    rate.values = values_at(function, store, rate.domain);
 }

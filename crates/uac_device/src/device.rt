@@ -2,10 +2,10 @@
 ghost use Rattle.std.specs.Prelude.{◌≡◌, ◌≤◌, ◌<◌, ◌+◌, ◌^◌, ◌≤ℤ◌, ℕ, false, true, pos, negsuc, IfOk, length};
 ghost use Rattle.std.specs.Option.{option_map};
 ghost use Rattle.uac_graph.specs.Meaning.{entity};
-ghost use Rattle.uac_graph.specs.Needs.{needed};
+ghost use Rattle.uac_graph.specs.Needs.{needed_units};
 ghost use Rattle.uac_pcm.specs.Tones.{tone_frame};
 ghost use Rattle.uac_units.specs.Fitting.{IsFitted};
-ghost use Rattle.uac_units.specs.Panel.{readings};
+ghost use Rattle.uac_units.specs.MeterReadings.{readings};
 ghost use Rattle.uac_device.specs.DeviceWorld.{DeviceWorld, ZerosFitIn, after_advance, after_frames, arrival_in, after_deviation};
 ghost use Rattle.uac_device.specs.DeviceWorld.{feedback_in};
 ghost use Rattle.uac_device.specs.DeviceWorld.{frames_in, fresh, heard_of, is_due_in, is_input_jack, is_output_jack, level_of, met_of};
@@ -14,7 +14,7 @@ ghost use Rattle.uac_device.specs.DeviceWorld.{after_sending_packet, set_jack, a
 ghost use Rattle.uac_device.specs.DeviceWorld.{target_of, after_tick};
 ghost use Rattle.uac_device.specs.DeviceKept.{IsControlled, DeviceStands};
 ghost use Rattle.uac_device.specs.Stillness.{IsStill};
-ghost use Rattle.uac_lanes.specs.InterfaceStreams.{NoneRuns};
+ghost use Rattle.uac_device_streams.specs.InterfaceStreams.{NoneRuns};
 ghost use Rattle.uac_request.specs.Requests.{answer_fields};
 
 use crate::clocks::{DomainClock, advance, deviate};
@@ -28,9 +28,9 @@ use std::alloc::Global;
 use std::marker::Model;
 use uac_alt::Settings;
 use uac_descriptor::NoMemory;
+use uac_device_streams::{DeviceStreams, Ticked};
 use uac_flow::Arrival;
 use uac_graph::{Graph, Wires};
-use uac_lanes::{Lanes, Ticked};
 use uac_pcm::{Frame, Packet, Tone};
 use uac_request::laws::each_interface_starts_with_a_setting;
 use uac_request::{Answer, Setup, answer};
@@ -51,7 +51,7 @@ pub struct Device {
     derived: Derived,
     wires: Wires,
     clocks: Vec<DomainClock>,
-    lanes: Lanes,
+    device_streams: DeviceStreams,
 }
 
 impl Model for Device {
@@ -67,7 +67,7 @@ impl Model for Device {
       settings = d.settings;
       clocks = d.clocks.items;
       wires = d.wires;
-      lanes = d.lanes;
+      device_streams = d.device_streams;
     } };
 
     ghost invariant = { λ d. IsDevice (record {
@@ -76,7 +76,7 @@ impl Model for Device {
       settings = d.settings;
       clocks = d.clocks.items;
       wires = d.wires;
-      lanes = d.lanes;
+      device_streams = d.device_streams;
     })
         × (d.graph ≡ d.function.entities)
         × IsDerived d.function d.store d.derived };
@@ -95,7 +95,7 @@ impl Device {
         let Moving {
             wires,
             clocks,
-            lanes,
+            device_streams,
         } = at_rest(alloc, &function)?;
         Ok(Device {
             function,
@@ -105,7 +105,7 @@ impl Device {
             derived,
             wires,
             clocks,
-            lanes,
+            device_streams,
         })
     }
 
@@ -134,21 +134,21 @@ impl Device {
     pub fn level(&self, interface: u8) -> u32
         ensures { (w : DeviceWorld) → DeviceStands self.now w → result ≡ level_of w interface }
     {
-        self.lanes.level(interface)
+        self.device_streams.level(interface)
     }
 
     /// The level at which an interface's stream to the device was primed; None where none runs or it is priming.
     pub fn target(&self, interface: u8) -> Option<u32>
         ensures { (w : DeviceWorld) → DeviceStands self.now w → result ≡ target_of w interface }
     {
-        self.lanes.target(interface)
+        self.device_streams.target(interface)
     }
 
     /// Whether an interface runs a stream that has a packet in the next microframe.
     pub fn due(&self, interface: u8) -> bool
         ensures { (w : DeviceWorld) → DeviceStands self.now w → result ≡ is_due_in w interface }
     {
-        self.lanes.due(interface)
+        self.device_streams.due(interface)
     }
 
     /// Whether an interface runs a stream.
@@ -156,14 +156,14 @@ impl Device {
         ensures value { (w : DeviceWorld) → DeviceStands self.now w → result ≡ runs_one w }
         ensures none { (w : DeviceWorld) → DeviceStands self.now w → result ≡ false → NoneRuns w.outs w.ins }
     {
-        self.lanes.run_one()
+        self.device_streams.run_one()
     }
 
     /// The report that is due of an interface's stream to the device (USB 2.0, 5.12.4.2); None where none is.
     pub fn feedback(&self, interface: u8) -> Option<u32>
         ensures { (w : DeviceWorld) → DeviceStands self.now w → result ≡ feedback_in w interface }
     {
-        self.lanes.feedback(interface)
+        self.device_streams.feedback(interface)
     }
 
     /// A packet comes to an interface, or is lost. Its frames are taken where the ring has room for all of them, and none where it
@@ -175,7 +175,7 @@ impl Device {
             → result ≡ arrival_in w interface (option_map (λ p. p.now.items) packet.entry) }
         ensures function { self.new.function ≡ self.old.function }
     {
-        self.lanes.receive(interface, packet)
+        self.device_streams.receive(interface, packet)
     }
 
     /// Forms the packet that an interface sends: the oldest frames of the ring, as many as fit. Answers their number. It is empty
@@ -186,7 +186,7 @@ impl Device {
         ensures frames { (w : DeviceWorld) → DeviceStands self.old w → result ≡ frames_in w interface }
         ensures function { self.new.function ≡ self.old.function }
     {
-        self.lanes.send(interface, packet)
+        self.device_streams.send(interface, packet)
     }
 
     /// A microframe ends for an interface's stream. Where it was due, zeros replace a lost packet, one for each tick of its domain since
@@ -196,7 +196,7 @@ impl Device {
             → DeviceStands self.new (after_settling interface w) }
         ensures function { self.new.function ≡ self.old.function }
     {
-        self.lanes.settle(interface);
+        self.device_streams.settle(interface);
     }
 
     /// Answers a control request (Audio Class 2.0, 5.2; USB 2.0, 9.4). `sent` are the bytes that came with it. A stall changes
@@ -217,7 +217,7 @@ impl Device {
         self.derived
             .follow(&self.graph, &self.function, &self.store, setup);
         if sets_interface(setup) && is_done(&answer) {
-            self.lanes.restart(setup.index, begun);
+            self.device_streams.restart(setup.index, begun);
         }
         answer
     }
@@ -244,7 +244,7 @@ impl Device {
         interfaces_are_numbered();
         let values = self.derived.values(&self.function, &self.store, domain);
         let ticks = advance(&mut self.clocks, domain, values);
-        self.lanes.count(domain, ticks);
+        self.device_streams.count(domain, ticks);
         ticks
     }
 
@@ -280,7 +280,7 @@ impl Device {
         steps: &mut Steps,
     ) -> Ticked
         requires rack { IsFitted (λ v x. (⟦<dyn Unit as Unit>⟧ v).kind_of x) rack.now }
-        requires room { steps.old + length (needed self.old.function.entities domain) < 2 ^ 64 }
+        requires room { steps.old + length (needed_units self.old.function.entities domain) < 2 ^ 64 }
         ensures stands { (w : DeviceWorld) → DeviceStands self.old w → DeviceStands self.new (after_tick domain w) }
         ensures once { (w : DeviceWorld) → DeviceStands self.old w → steps.new ≡ steps.old + renders_of domain w }
         ensures heard { (w : DeviceWorld) → DeviceStands self.old w
@@ -303,7 +303,7 @@ impl Device {
         steps: &mut Steps,
     ) -> Ticked
         requires rack { IsFitted (λ v x. (⟦<dyn Unit as Unit>⟧ v).kind_of x) rack.now }
-        requires room { steps.old + length (needed self.old.function.entities domain) < 2 ^ 64 }
+        requires room { steps.old + length (needed_units self.old.function.entities domain) < 2 ^ 64 }
         ensures stands { (w : DeviceWorld) → DeviceStands self.old w → (still ≡ true → IsStill domain w)
             → DeviceStands self.new (after_tick domain w) }
         ensures once { (w : DeviceWorld) → DeviceStands self.old w → steps.new ≡ steps.old + renders_of domain w }
@@ -317,10 +317,10 @@ impl Device {
         sound_functions_are_small();
         interfaces_are_numbered();
         entities_have_channels();
-        let met = begin_unless(still, &mut self.lanes, domain, &mut self.wires);
+        let met = begin_unless(still, &mut self.device_streams, domain, &mut self.wires);
         self.graph
             .tick_by(domain, &self.derived.jobs, rack, &mut self.wires, steps);
-        put_unless(still, &mut self.lanes, domain, &self.wires);
+        put_unless(still, &mut self.device_streams, domain, &self.wires);
         hear(self.derived.jacks(), &self.wires, domain, meters);
         met
     }

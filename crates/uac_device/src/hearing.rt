@@ -3,7 +3,7 @@ ghost use Rattle.std.specs.Prelude.{◌≡◌, IfOk, List};
 ghost use Rattle.std.specs.Option.{option_map};
 ghost use Rattle.uac_entities.specs.declared.entity.Entity.{Entity};
 ghost use Rattle.uac_graph.specs.Wiring.{AreWiresOf};
-ghost use Rattle.uac_units.specs.Panel.{readings};
+ghost use Rattle.uac_units.specs.MeterReadings.{readings};
 ghost use Rattle.uac_device.specs.DeviceWorld.{after_frames};
 ghost use Rattle.uac_device.specs.DeviceTurns as spec;
 

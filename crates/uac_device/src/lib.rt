@@ -12,7 +12,7 @@ mod hearing;
 pub mod laws;
 /// What ticks change, at the start.
 mod rest;
-/// The beginning and the end of a tick in the lanes.
+/// The beginning and the end of a tick in the device's streams.
 mod still;
 /// The stream that a request starts.
 mod streams;
@@ -23,5 +23,5 @@ pub use clocks::DomainClock;
 pub use device::Device;
 pub use streams::{is_done, sets_interface, stream_asked};
 pub use terminals::{is_input_jack, is_output_jack, is_output_jack_of};
+pub use uac_device_streams::Ticked;
 pub use uac_flow::Arrival;
-pub use uac_lanes::Ticked;

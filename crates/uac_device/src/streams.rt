@@ -22,7 +22,7 @@ pub fn sets_interface(setup: &Setup) -> bool
 
 /// Whether an answer is that the request is done.
 pub fn is_done(answer: &Answer) -> bool
-    ensures { result ≡ spec.tells_done (requests.answer_fields answer.now) }
+    ensures { result ≡ requests.is_done_answer (requests.answer_fields answer.now) }
 {
     match answer {
         Answer::Done => true,

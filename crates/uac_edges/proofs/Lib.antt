@@ -2,4 +2,4 @@ pub mod WritingLemmas
 pub mod MemoryLemmas
 pub mod Consuming
 pub mod NumeralsLemmas
-pub mod KeptBytes
+pub mod StdEdgesLemmas

@@ -6,4 +6,4 @@ pub mod Numerals
 pub mod TextLines
 -- What the contracts below them cite: steps of the code, no part of what is promised.
 pub mod Memory
-pub mod EdgeStreams
+pub mod StdEdges

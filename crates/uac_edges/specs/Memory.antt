@@ -21,8 +21,8 @@ pub record SinkInMemory : Type 0 where
   pub faults : ℕ
 
 -- One more, up to the largest count of 64 bits. A call's number, from 1, is one more than the calls before it.
-abbrev pub one_more : ℕ → ℕ
-one_more count = min (count + 1) 18446744073709551615
+abbrev pub raised_count : ℕ → ℕ
+raised_count count = min (count + 1) 18446744073709551615
 
 -- How many bytes a call that doesn't fail moves into a buffer of this length.
 abbrev pub moved_count : SourceInMemory → ℕ → ℕ
@@ -34,24 +34,24 @@ appended_count sink size = min sink.cut (min size (sink.room - length sink.writt
 
 -- The next call of the source is one of those that fail.
 abbrev pub IsFailing : SourceInMemory → Type 0
-IsFailing source = Contains source.failing (one_more source.calls)
+IsFailing source = Contains source.failing (raised_count source.calls)
 
 -- The next call of the sink is one of those that fail, or its room is used up.
 abbrev pub IsRefusing : SinkInMemory → Type 0
-IsRefusing sink = Contains sink.failing (one_more sink.calls) ⊎ (sink.room ≤ length sink.written)
+IsRefusing sink = Contains sink.failing (raised_count sink.calls) ⊎ (sink.room ≤ length sink.written)
 
 -- The source after a call that moved so many bytes.
 abbrev pub after_moving : SourceInMemory → ℕ → SourceInMemory
-after_moving source count = record source { left = drop count source.left; calls = one_more source.calls }
+after_moving source count = record source { left = drop count source.left; calls = raised_count source.calls }
 
 -- The source after a call that failed.
 abbrev pub after_failing : SourceInMemory → SourceInMemory
-after_failing source = record source { calls = one_more source.calls; faults = one_more source.faults }
+after_failing source = record source { calls = raised_count source.calls; faults = raised_count source.faults }
 
 -- The sink after a call that appended these bytes.
 abbrev pub after_appending : SinkInMemory → List ℕ → SinkInMemory
-after_appending sink bytes = record sink { written = sink.written ++ bytes; calls = one_more sink.calls }
+after_appending sink bytes = record sink { written = sink.written ++ bytes; calls = raised_count sink.calls }
 
 -- The sink after a call that failed.
 abbrev pub after_refusing : SinkInMemory → SinkInMemory
-after_refusing sink = record sink { calls = one_more sink.calls; faults = one_more sink.faults }
+after_refusing sink = record sink { calls = raised_count sink.calls; faults = raised_count sink.faults }

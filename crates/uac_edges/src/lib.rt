@@ -12,7 +12,7 @@ mod sinks;
 /// The sources in memory.
 mod sources;
 /// Any reader as a source, and any writer as a sink.
-mod streams;
+mod std_edges;
 /// A line of text in a buffer of fixed size.
 mod text;
 
@@ -20,7 +20,7 @@ pub use edges::{Failed, Sink, Source, give_all};
 pub use gathering::Gathering;
 pub use sinks::MemorySink;
 pub use sources::{MemorySource, SteadySource};
-pub use streams::{StdSink, StdSource};
+pub use std_edges::{StdSink, StdSource};
 pub use text::TextLine;
 
 #[cfg(test)]

@@ -4,7 +4,7 @@ ghost use Rattle.std.specs.Io.KnownBytes.{Keeps, WriteAppends};
 ghost use Rattle.uac_edges.specs.Faults.{HasCause};
 ghost use Rattle.uac_edges.specs.Memory.{appended_count, after_appending, after_refusing, IsRefusing};
 
-use crate::calls::is_listed;
+use crate::calls::is_failing;
 use crate::edges::{Failed, Sink};
 use std::alloc::Global;
 use std::marker::Model;
@@ -99,7 +99,7 @@ impl Sink for MemorySink {
     {
         self.calls = self.calls.saturating_add(1);
         let room = self.room - self.bytes.len();
-        if room == 0 || is_listed(&self.failing, self.calls) {
+        if room == 0 || is_failing(&self.failing, self.calls) {
             self.faults = self.faults.saturating_add(1);
             return Err(Failed);
         }

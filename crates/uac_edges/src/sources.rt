@@ -4,7 +4,7 @@ ghost use Rattle.std.specs.Io.KnownBytes.{ReadConsumes};
 ghost use Rattle.uac_edges.specs.Faults.{HasCause};
 ghost use Rattle.uac_edges.specs.Memory.{moved_count, after_moving, after_failing, IsFailing};
 
-use crate::calls::is_listed;
+use crate::calls::is_failing;
 use crate::edges::{Failed, Source};
 use std::marker::Model;
 use uac_descriptor::{ByteList, WordList};
@@ -74,7 +74,7 @@ impl Source for MemorySource {
         ensures err { OnErr result (self.new ≡ after_failing self.old) }
     {
         self.calls = self.calls.saturating_add(1);
-        if is_listed(&self.failing, self.calls) {
+        if is_failing(&self.failing, self.calls) {
             self.faults = self.faults.saturating_add(1);
             return Err(Failed);
         }

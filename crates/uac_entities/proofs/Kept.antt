@@ -23,7 +23,7 @@ abbrev pub blank : DeclaredSetting
 blank =
     record {
       interface = 0;
-      declared = 0;
+      endpoint_count = 0;
       endpoints = 0;
       setting = record { number = 0; general = None; format = None; first = None; second = None };
     }

@@ -111,7 +111,7 @@ abbrev pub declared_setting_of : Interface → List block.Block → DeclaredSett
 declared_setting_of i following =
     record {
       interface = i.number;
-      declared = i.endpoints;
+      endpoint_count = i.endpoints;
       endpoints = length (own endpoint_of following);
       setting =
           record {

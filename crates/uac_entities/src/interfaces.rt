@@ -19,8 +19,8 @@ pub fn streaming_interfaces_of(
     ensures { IfOk result (λ streams. streams.items ≡ spec.streaming_interfaces_of entities.now all.now) }
 {
     let mut streams = Vec::new(alloc);
-    for alternate in all {
-        let stream = streaming_interface_at(alloc, entities, all, alternate)?;
+    for declared in all {
+        let stream = streaming_interface_at(alloc, entities, all, declared)?;
         keep(&mut streams, stream)?;
     }
     Ok(streams)
@@ -32,12 +32,12 @@ fn streaming_interface_at(
     alloc: Global,
     entities: &[Entity],
     all: &[DeclaredSetting],
-    alternate: &DeclaredSetting,
+    declared: &DeclaredSetting,
 ) -> Result<Option<StreamInterface>, NoMemory>
-    ensures { IfOk result (λ stream. stream ≡ spec.streaming_interface_at entities.now all.now alternate.now) }
+    ensures { IfOk result (λ stream. stream ≡ spec.streaming_interface_at entities.now all.now declared.now) }
 {
-    if alternate.setting.number == 0 {
-        Ok(Some(streaming_interface_of(alloc, entities, all, alternate.interface)?))
+    if declared.setting.number == 0 {
+        Ok(Some(streaming_interface_of(alloc, entities, all, declared.interface)?))
     } else {
         Ok(None)
     }
@@ -67,19 +67,19 @@ fn settings_of(alloc: Global, all: &[DeclaredSetting], number: u8) -> Result<Set
     ensures { IfOk result (λ settings. settings ≡ spec.settings_of all.now number) }
 {
     let mut settings = Vec::new(alloc);
-    for alternate in all {
-        let setting = setting_of(number, alternate);
+    for declared in all {
+        let setting = setting_of(number, declared);
         keep(&mut settings, setting)?;
     }
     Ok(SettingList::from_vec(settings))
 }
 
 #[tactic(auto, unfolding(crate::specs::EntityInterfaces::setting_of))]
-fn setting_of(number: u8, alternate: &DeclaredSetting) -> Option<Setting>
-    ensures { result ≡ spec.setting_of number alternate.now }
+fn setting_of(number: u8, declared: &DeclaredSetting) -> Option<Setting>
+    ensures { result ≡ spec.setting_of number declared.now }
 {
-    if alternate.interface == number {
-        Some(copy_setting(&alternate.setting))
+    if declared.interface == number {
+        Some(copy_setting(&declared.setting))
     } else {
         None
     }

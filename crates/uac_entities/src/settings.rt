@@ -15,7 +15,7 @@ pub struct DeclaredSetting {
     /// bInterfaceNumber
     pub interface: u8,
     /// bNumEndpoints
-    pub declared: u8,
+    pub endpoint_count: u8,
     /// How many endpoint blocks stand after it.
     pub endpoints: usize,
     pub setting: Setting,
@@ -28,8 +28,8 @@ pub fn declared_settings(alloc: Global, blocks: &[Block]) -> Result<Vec<Declared
     let mut all = Vec::new(alloc);
     for (place, block) in blocks.iter().enumerate() {
         if let Block::Interface(interface) = block {
-            let alternate = declared_setting_at(interface, &blocks[place + 1..]);
-            keep(&mut all, alternate)?;
+            let declared = declared_setting_at(interface, &blocks[place + 1..]);
+            keep(&mut all, declared)?;
         }
     }
     Ok(all)
@@ -52,7 +52,7 @@ fn declared_setting_of(interface: &Interface, following: &[Block]) -> DeclaredSe
 {
     DeclaredSetting {
         interface: interface.number,
-        declared: interface.endpoints,
+        endpoint_count: interface.endpoints,
         endpoints: endpoints_following(following),
         setting: Setting {
             number: interface.setting,

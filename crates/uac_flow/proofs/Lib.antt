@@ -1,4 +1,4 @@
-pub mod HeldFrames
-pub mod KeptCounts
+pub mod FlowsFrameLemmas
+pub mod FlowsCountLemmas
 pub mod Settling
 mod Worked

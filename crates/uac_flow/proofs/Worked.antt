@@ -3,7 +3,7 @@ use Rattle.std.proofs.Common.{◌≡◌, ℕ, pos, negsuc, List, [], ◌∷◌, 
 use Rattle.std.specs.List.{range_with_len}
 use Rattle.std.specs.Int.{int_wrap}
 use Rattle.uac_alt.specs.AltStreams.{StreamFields}
-use Rattle.uac_pcm.specs.SampleWords.{cut, sample_of_word, word_of}
+use Rattle.uac_pcm.specs.Subslots.{cut_to, sample_of_subslot, subslot_of}
 use Rattle.uac_flow.specs.Flows.{kept_count}
 use Rattle.uac_flow.specs.FlowStreams.{InStream, OutStream, after_packet, after_putting, after_sending, after_taking, after_ticks, arrival_of, feedback_of, is_dry, is_due, is_full, next_taken, sent_frames, sent_packet, settled_out, started_in, started_out}
 use Rattle.uac_flow.specs.declared.arrival.Arrival.TheVariants as arrival
@@ -55,7 +55,7 @@ packet = 1 ∷ 0 ∷ 254 ∷ 255 ∷ 7 ∷ []
 
 arrives : (arrival_of (Some packet) half ≡ arrival.Taken)
     × (after_packet (Some packet) half ≡ record half { arrived = half.arrived ++ (pos 65536 ∷ []) ∷ (negsuc 131071 ∷ []) ∷ [] })
-unfolding arrival_of after_packet half mono packet cut sample_of_word int_wrap
+unfolding arrival_of after_packet half mono packet cut_to sample_of_subslot int_wrap
 arrives = (refl, refl)
 
 is_lost : (arrival_of None half ≡ arrival.Lost) × (after_packet None half ≡ record half { lost = true })
@@ -148,7 +148,7 @@ sends = (refl, refl, refl, refl, refl)
 -- the oldest first
 sent_bytes : (sent_packet (record (started_in (mono 1 false)) { made = (pos 65536 ∷ []) ∷ (negsuc 131071 ∷ []) ∷ [] }) ≡ 1 ∷ 0 ∷ 254 ∷ 255 ∷ [])
     × (sent_packet (started_in (mono 1 false)) ≡ [])
-unfolding sent_packet mono cut word_of
+unfolding sent_packet mono cut_to subslot_of
 sent_bytes = (refl, refl)
 
 -- ---- feedback

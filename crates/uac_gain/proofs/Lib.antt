@@ -1,4 +1,4 @@
-pub mod Ladder
-pub mod Listening
-pub mod Rising
+pub mod GainTableLemmas
+pub mod GainScalingLemmas
+pub mod GainRiseLemmas
 pub mod Worked

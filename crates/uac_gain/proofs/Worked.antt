@@ -1,6 +1,6 @@
 -- The definitions at the values that were worked out by hand.
 use Rattle.std.proofs.Common.{◌≡◌, refl, pos, negsuc, Some, None}
-use Rattle.uac_gain.specs.Gain.{decibel_gain, raised_gain, gain_of, scaled, saturated}
+use Rattle.uac_gain.specs.Gain.{decibel_gain, raised_gain, gain_of, scaled_sample, nearest_in_32_bits}
 
 gain-0 : decibel_gain 0 ≡ 1073741824
 unfolding decibel_gain
@@ -45,41 +45,41 @@ above_the_grid = refl
 below_the_grid : gain_of (negsuc 24831) ≡ None
 below_the_grid = refl
 
-scaled-full : scaled (pos 1073741824) 956973408 ≡ pos 956973408
-scaled-full = refl
+scaled_sample-full : scaled_sample (pos 1073741824) 956973408 ≡ pos 956973408
+scaled_sample-full = refl
 
-scaled-1 : scaled (pos 1) 956973408 ≡ pos 0
-scaled-1 = refl
+scaled_sample-1 : scaled_sample (pos 1) 956973408 ≡ pos 0
+scaled_sample-1 = refl
 
-scaled-minus-1 : scaled (negsuc 0) 956973408 ≡ negsuc 0
-scaled-minus-1 = refl
+scaled_sample-minus-1 : scaled_sample (negsuc 0) 956973408 ≡ negsuc 0
+scaled_sample-minus-1 = refl
 
 -- half a decibel up, then twelve decibels up
 half_up : gain_of (pos 128) ≡ Some 1137365026
 unfolding raised_gain
 half_up = refl
 
-half_up-half_full : scaled (pos 1073741824) 1137365026 ≡ pos 1137365026
+half_up-half_full : scaled_sample (pos 1073741824) 1137365026 ≡ pos 1137365026
 half_up-half_full = refl
 
-half_up-full : scaled (pos 2147483647) 1137365026 ≡ pos 2147483647
+half_up-full : scaled_sample (pos 2147483647) 1137365026 ≡ pos 2147483647
 half_up-full = refl
 
 highest : gain_of (pos 3072) ≡ Some 4274643155
 unfolding raised_gain
 highest = refl
 
-highest-1 : scaled (pos 1) 4274643155 ≡ pos 3
+highest-1 : scaled_sample (pos 1) 4274643155 ≡ pos 3
 highest-1 = refl
 
-highest-minus-1 : scaled (negsuc 0) 4274643155 ≡ negsuc 3
+highest-minus-1 : scaled_sample (negsuc 0) 4274643155 ≡ negsuc 3
 highest-minus-1 = refl
 
-highest-least : scaled (negsuc 2147483647) 4274643155 ≡ negsuc 2147483647
+highest-least : scaled_sample (negsuc 2147483647) 4274643155 ≡ negsuc 2147483647
 highest-least = refl
 
-two_full_inputs : saturated (pos 4294967294) ≡ pos 2147483647
+two_full_inputs : nearest_in_32_bits (pos 4294967294) ≡ pos 2147483647
 two_full_inputs = refl
 
-two_least_inputs : saturated (negsuc 4294967295) ≡ negsuc 2147483647
+two_least_inputs : nearest_in_32_bits (negsuc 4294967295) ≡ negsuc 2147483647
 two_least_inputs = refl

@@ -49,13 +49,13 @@ floor_div (pos n) d = pos (n / d)
 floor_div (negsuc n) d = negsuc (n / d)
 
 -- the signed number of 32 bits that is nearest
-abbrev pub saturated : ℤ → ℤ
-saturated sum = int_max (negsuc 2147483647) (int_min sum (pos 2147483647))
+abbrev pub nearest_in_32_bits : ℤ → ℤ
+nearest_in_32_bits sum = int_max (negsuc 2147483647) (int_min sum (pos 2147483647))
 
 -- the sample times the gain, which is in parts of 2^30
 abbrev pub product_floor : ℤ → ℕ → ℤ
 product_floor sample gain = floor_div (sample *ℤ pos gain) (2 ^ 30)
 
 -- a sample scaled and held to 32 bits: a gain above one can leave them
-abbrev pub scaled : ℤ → ℕ → ℤ
-scaled sample gain = saturated (product_floor sample gain)
+abbrev pub scaled_sample : ℤ → ℕ → ℤ
+scaled_sample sample gain = nearest_in_32_bits (product_floor sample gain)

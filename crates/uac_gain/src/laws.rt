@@ -3,33 +3,34 @@
 ghost use Rattle.std.specs.Prelude.{◌≡◌, ℕ, ◌+◌, ◌*◌, ◌^◌, ◌<◌, ◌≤◌, Some};
 ghost use Rattle.std.specs.Prelude.{ℤ, pos, negsuc, neg_ℤ, ◌+ℤ◌, ◌-ℤ◌, ◌*ℤ◌, ◌≤ℤ◌, ◌<ℤ◌, unsigned_abs, FitsSigned};
 ghost use Rattle.std.specs.Int.{w32};
-ghost use Rattle.uac_gain.specs.Gain.{decibel_gain, raised_gain, half_below, half_above, gain_of, product_floor, scaled, saturated, unity};
+ghost use Rattle.uac_gain.specs.Gain.{decibel_gain, raised_gain, half_below, half_above, gain_of, product_floor, scaled_sample};
+ghost use Rattle.uac_gain.specs.Gain.{nearest_in_32_bits, unity};
 
 /// A gain of 0 decibels changes no sample of 32 bits.
 pub fn unity_changes_nothing()
     ensures gain { gain_of (pos 0) ≡ Some unity }
-    ensures sample { (sample : ℤ) → FitsSigned w32 sample → scaled sample unity ≡ sample }
+    ensures sample { (sample : ℤ) → FitsSigned w32 sample → scaled_sample sample unity ≡ sample }
 {}
 
 /// A lesser gain never makes a sample larger in size, and no gain up to 2^30 makes it larger than it was.
 pub fn lesser_gain_is_no_louder()
     ensures lesser { (sample : ℤ) (less more : ℕ) → less ≤ more
-        → unsigned_abs (scaled sample less) ≤ unsigned_abs (scaled sample more) }
+        → unsigned_abs (scaled_sample sample less) ≤ unsigned_abs (scaled_sample sample more) }
     ensures whole { (sample : ℤ) (gain : ℕ) → gain ≤ 2 ^ 30
-        → unsigned_abs (scaled sample gain) ≤ unsigned_abs sample }
+        → unsigned_abs (scaled_sample sample gain) ≤ unsigned_abs sample }
 {}
 
 /// Scaling keeps the order of samples.
 pub fn scaling_keeps_the_order()
-    ensures { (lower upper : ℤ) (gain : ℕ) → lower ≤ℤ upper → scaled lower gain ≤ℤ scaled upper gain }
+    ensures { (lower upper : ℤ) (gain : ℕ) → lower ≤ℤ upper → scaled_sample lower gain ≤ℤ scaled_sample upper gain }
 {}
 
 /// Scaling never turns a sample's sign: what isn't negative stays so, and what is negative stays at -1 or below, as the
 /// floor says, unless the gain is 0.
 pub fn scaling_keeps_the_sign()
-    ensures above { (size gain : ℕ) → pos 0 ≤ℤ scaled (pos size) gain }
-    ensures below { (size gain : ℕ) → 0 < gain → scaled (negsuc size) gain ≤ℤ negsuc 0 }
-    ensures silent { (sample : ℤ) → scaled sample 0 ≡ pos 0 }
+    ensures above { (size gain : ℕ) → pos 0 ≤ℤ scaled_sample (pos size) gain }
+    ensures below { (size gain : ℕ) → 0 < gain → scaled_sample (negsuc size) gain ≤ℤ negsuc 0 }
+    ensures silent { (sample : ℤ) → scaled_sample sample 0 ≡ pos 0 }
 {}
 
 /// Before it is held to 32 bits, the scaled sample is the true product rounded towards minus infinity: the product lies
@@ -43,8 +44,9 @@ pub fn scaling_rounds_down()
 
 /// A scaled sample has 32 bits, and is exact wherever that suffices.
 pub fn scaling_saturates()
-    ensures fits { (sample : ℤ) (gain : ℕ) → FitsSigned w32 (scaled sample gain) }
-    ensures exact { (sample : ℤ) (gain : ℕ) → FitsSigned w32 (product_floor sample gain) → scaled sample gain ≡ product_floor sample gain }
+    ensures fits { (sample : ℤ) (gain : ℕ) → FitsSigned w32 (scaled_sample sample gain) }
+    ensures exact { (sample : ℤ) (gain : ℕ) → FitsSigned w32 (product_floor sample gain)
+        → scaled_sample sample gain ≡ product_floor sample gain }
 {}
 
 /// The volumes that have a gain: whole decibels from -96 to 12, halves from -31.5 to 11.5, and silence.
@@ -71,12 +73,12 @@ pub fn gains_rise_strictly()
 pub fn lesser_volume_is_no_louder()
     ensures { (sample less more : ℤ) (low high : ℕ) → less ≤ℤ more
         → gain_of less ≡ Some low → gain_of more ≡ Some high
-        → unsigned_abs (scaled sample low) ≤ unsigned_abs (scaled sample high) }
+        → unsigned_abs (scaled_sample sample low) ≤ unsigned_abs (scaled_sample sample high) }
 {}
 
 /// Saturation gives a number of 32 bits, and none lies nearer.
 pub fn saturation_is_nearest()
-    ensures fits { (sum : ℤ) → FitsSigned w32 (saturated sum) }
+    ensures fits { (sum : ℤ) → FitsSigned w32 (nearest_in_32_bits sum) }
     ensures nearest { (sum other : ℤ) → FitsSigned w32 other
-        → unsigned_abs (sum -ℤ saturated sum) ≤ unsigned_abs (sum -ℤ other) }
+        → unsigned_abs (sum -ℤ nearest_in_32_bits sum) ≤ unsigned_abs (sum -ℤ other) }
 {}

@@ -5,7 +5,7 @@ pub mod laws;
 mod table;
 
 ghost use Rattle.std.specs.Prelude.{◌≡◌, ◌*◌, ◌/◌, ◌^◌, ◌<◌, ◌≤◌};
-ghost use Rattle.uac_gain.specs.Gain.{gain_above, gain_below, gain_of, scaled, saturated};
+ghost use Rattle.uac_gain.specs.Gain.{gain_above, gain_below, gain_of, scaled_sample, nearest_in_32_bits};
 
 /// The volume that means silence (Audio Class 2.0, 5.2.5.7.2).
 const SILENCE: i16 = -32768;
@@ -79,14 +79,14 @@ fn above(parts: u16) -> Option<u32>
 
 /// The sample scaled by a gain in parts of 2^30, rounded towards minus infinity and held to 32 bits.
 pub fn scale(sample: i32, gain: u32) -> i32
-    ensures { result ≡ scaled sample gain }
+    ensures { result ≡ scaled_sample sample gain }
 {
     saturate((sample as i64 * gain as i64) >> 30)
 }
 
 /// The nearest number of 32 bits.
 pub fn saturate(sum: i64) -> i32
-    ensures { result ≡ saturated sum }
+    ensures { result ≡ nearest_in_32_bits sum }
 {
     sum.clamp(i32::MIN as i64, i32::MAX as i64) as i32
 }

@@ -4,7 +4,7 @@ use Rattle.std.specs.List.{range_with_len}
 use Rattle.std.proofs.lemmas.Bool.{cond-true, cond-false, ne_eqb, cases_lt}
 use Rattle.std.proofs.lemmas.Grind.{flat_map-append, common_steps}
 use Rattle.uac_descriptor.specs.Spelling.{spelling}
-use Rattle.uac_gen.specs.Descriptor.{unit_at, units_of, output_terminal, stream_blocks, front_blocks, blocks_with, control_total, whole_total, descriptor_of}
+use Rattle.uac_gen.specs.Descriptor.{unit_at, units_of, speaker, stream_blocks, front_blocks, blocks_with, control_total, whole_total, descriptor_of}
 
 -- ---- one unit
 
@@ -65,7 +65,7 @@ stream_bytes =
     ∷ 8 ∷ 37 ∷ 1 ∷ 0 ∷ 0 ∷ 0 ∷ 0 ∷ 0
     ∷ 7 ∷ 5 ∷ 129 ∷ 17 ∷ 4 ∷ 0 ∷ 4 ∷ []
 
-after_units : (count : ℕ) → flat_map spelling (output_terminal count ∷ stream_blocks) ≡ output_bytes count ++ stream_bytes
+after_units : (count : ℕ) → flat_map spelling (speaker count ∷ stream_blocks) ≡ output_bytes count ++ stream_bytes
 unfolding spelling
 after_units count = refl
 
@@ -80,8 +80,8 @@ all_bytes total control count =
     let front = flat_map spelling (front_blocks total control) in
     let units = flat_map spelling (units_of count) in
     let rest = output_bytes count ++ stream_bytes in
-    flat_map-append spelling (front_blocks total control) (units_of count ++ output_terminal count ∷ stream_blocks)
-    ∙ ap (λ bytes. front ++ bytes) (flat_map-append spelling (units_of count) (output_terminal count ∷ stream_blocks) ∙ ap (λ bytes. units ++ bytes) (after_units count))
+    flat_map-append spelling (front_blocks total control) (units_of count ++ speaker count ∷ stream_blocks)
+    ∙ ap (λ bytes. front ++ bytes) (flat_map-append spelling (units_of count) (speaker count ∷ stream_blocks) ∙ ap (λ bytes. units ++ bytes) (after_units count))
     ∙ sym (append_assoc front units rest)
     ∙ sym (append_assoc (front ++ units) (output_bytes count) stream_bytes)
 
@@ -90,9 +90,9 @@ control_size : (count : ℕ) → control_total count ≡ 46 + 17 * count + count
 unfolding spelling
 control_size count =
     let units = units_size 0 count in
-    let last : length (flat_map spelling (output_terminal count ∷ [])) ≡ 12 = refl in
-    let both : length (flat_map spelling (units_of count ++ output_terminal count ∷ [])) ≡ length (flat_map spelling (units_of count)) + 12 =
-    ap length (flat_map-append spelling (units_of count) (output_terminal count ∷ [])) ∙ length-append (flat_map spelling (units_of count)) (flat_map spelling (output_terminal count ∷ [])) in
+    let last : length (flat_map spelling (speaker count ∷ [])) ≡ 12 = refl in
+    let both : length (flat_map spelling (units_of count ++ speaker count ∷ [])) ≡ length (flat_map spelling (units_of count)) + 12 =
+    ap length (flat_map-append spelling (units_of count) (speaker count ∷ [])) ∙ length-append (flat_map spelling (units_of count)) (flat_map spelling (speaker count ∷ [])) in
     omega (arith, units, both)
 
 whole_size : (count : ℕ) → whole_total count ≡ 134 + 17 * count + count % 2

@@ -10,12 +10,12 @@ abbrev pub size : List block.Block → ℕ
 size blocks = length (flat_map spelling blocks)
 
 -- a clock that the host sets
-abbrev pub clock_source : block.Block
-clock_source = row.ClockSource (record { id = 1; attributes = 3; controls = 7; assoc = 0; name = 0 })
+abbrev pub own_clock : block.Block
+own_clock = row.ClockSource (record { id = 1; attributes = 3; controls = 7; assoc = 0; name = 0 })
 
 -- the frames of the stream
-abbrev pub input_terminal : block.Block
-input_terminal =
+abbrev pub stream_terminal : block.Block
+stream_terminal =
     row.InputTerminal
     (record { id = 2; terminal_type = 257; assoc = 0; clock = 1; channels = 2; locations = 3; names = 0; controls = 0; name = 0 })
 
@@ -40,8 +40,8 @@ abbrev pub units_of : ℕ → List block.Block
 units_of count = map unit_at (range_with_len 0 count)
 
 -- a speaker, fed by the last unit
-abbrev pub output_terminal : ℕ → block.Block
-output_terminal count =
+abbrev pub speaker : ℕ → block.Block
+speaker count =
     row.OutputTerminal (record { id = count + 3; terminal_type = 769; assoc = 0; source = count + 2; clock = 1; controls = 0; name = 0 })
 
 -- the stream: its idle setting, and one of two channels of 24 bits with its feedback
@@ -63,15 +63,15 @@ front_blocks total control =
     ∷ row.Association (record { first = 0; count = 2; «class» = 1; subclass = 0; protocol = 32; name = 0 })
     ∷ row.Interface (record { number = 0; setting = 0; endpoints = 0; «class» = 1; subclass = 1; protocol = 32; name = 0 })
     ∷ row.Header (record { version = 512; category = 4; total = control; controls = 0 })
-    ∷ clock_source ∷ input_terminal ∷ []
+    ∷ own_clock ∷ stream_terminal ∷ []
 
 -- all blocks, with these totals
 abbrev pub blocks_with : ℕ → ℕ → ℕ → List block.Block
-blocks_with total control count = front_blocks total control ++ (units_of count ++ output_terminal count ∷ stream_blocks)
+blocks_with total control count = front_blocks total control ++ (units_of count ++ speaker count ∷ stream_blocks)
 
 -- the header's total counts its own nine bytes and all entities
 abbrev pub control_total : ℕ → ℕ
-control_total count = 9 + size (clock_source ∷ input_terminal ∷ (units_of count ++ output_terminal count ∷ []))
+control_total count = 9 + size (own_clock ∷ stream_terminal ∷ (units_of count ++ speaker count ∷ []))
 
 -- the configuration's total counts all bytes
 abbrev pub whole_total : ℕ → ℕ

@@ -5,7 +5,7 @@ ghost use Rattle.uac_gen.specs.Left.{lines_left};
 
 use crate::descriptor::{Bytes, descriptor};
 use crate::draws::Draws;
-use crate::groups::{next_group, place_after_unreported, rest_line};
+use crate::groups::{next_after_unreported, next_group, rest_line};
 use crate::lines::{LineText, feed_line, fixed_line, rate_line, run_line, tone_line};
 use crate::next_line::NextLine;
 use arrayvec::ArrayVec;
@@ -91,7 +91,7 @@ fn step(
         NextLine::Deviation(count) => Some(next_group(draws, count)),
         NextLine::Unreported(group) => Some((
             run_line(8 * u64::from(group.eights), b" f1"),
-            place_after_unreported(group),
+            next_after_unreported(group),
         )),
         NextLine::Unpacked(group) => Some((run_line(1, b" o1"), NextLine::Rest(group))),
         NextLine::Rest(group) => Some((rest_line(group), NextLine::Deviation(group.following))),

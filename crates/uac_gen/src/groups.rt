@@ -24,11 +24,11 @@ pub fn next_group(draws: &mut Draws, count: u8) -> (LineText, NextLine)
         lost,
         following: count - 1,
     };
-    (deviation_line(drawn), place_after_deviation(group))
+    (deviation_line(drawn), next_after_deviation(group))
 }
 
-// The place after a group's first line.
-fn place_after_deviation(group: Group) -> NextLine
+// What comes after a group's first line.
+fn next_after_deviation(group: Group) -> NextLine
     ensures { (number hertz x : ℕ) (bytes : List ℕ) → lines_left number hertz bytes x result
         ≡ unreported_lines group.eights
         ++ (unpacked_lines group.lost ++ rest_line group.eights group.lost ∷ from_groups group.following x) }
@@ -36,12 +36,12 @@ fn place_after_deviation(group: Group) -> NextLine
     if group.eights > 0 {
         NextLine::Unreported(group)
     } else {
-        place_after_unreported(group)
+        next_after_unreported(group)
     }
 }
 
-/// The place after the microframes of a group that have no report.
-pub fn place_after_unreported(group: Group) -> NextLine
+/// What comes after the microframes of a group that have no report.
+pub fn next_after_unreported(group: Group) -> NextLine
     ensures { (number hertz x : ℕ) (bytes : List ℕ) → lines_left number hertz bytes x result
         ≡ unpacked_lines group.lost ++ rest_line group.eights group.lost ∷ from_groups group.following x }
 {

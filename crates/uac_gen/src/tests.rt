@@ -18,7 +18,7 @@ const KNOWN: [(u32, &[u8]); 6] = [
 ];
 
 // The text, mixed into a sum that tells texts apart (FNV-1a).
-fn mixed(mut sum: u32, text: &[u8]) -> u32 {
+fn mix(mut sum: u32, text: &[u8]) -> u32 {
     for byte in text {
         sum = (sum ^ u32::from(*byte)).wrapping_mul(16777619);
     }
@@ -40,7 +40,7 @@ fn expect(rt: &impl Abort, number: u32, lines: u32, text: u32) {
                 assert_eq!(rt; line.as_slice(), known, "at line {place}");
             }
         }
-        sum = mixed(mixed(sum, line.as_slice()), b"\n");
+        sum = mix(mix(sum, line.as_slice()), b"\n");
         count = count.saturating_add(1);
     }
     assert_eq!(rt; count, lines, "of number {number}");
@@ -72,7 +72,7 @@ fn source_of_one(rt: HostRuntime) {
     let mut sum = 2166136261;
     for _ in 0..20000 {
         match source.take(&mut piece) {
-            Ok(count) => sum = mixed(sum, &piece[..count]),
+            Ok(count) => sum = mix(sum, &piece[..count]),
             Err(_) => break,
         }
     }

@@ -8,12 +8,12 @@ use Rattle.uac_rate.specs.Steadiness.{SteadyHistory, with_report_given}
 use Rattle.uac_topology.specs.Function.{FunctionFields}
 use Rattle.uac_rate.specs.Reports.{report_of}
 use Rattle.uac_flow.specs.FlowStreams.{OutStream, after_packet, after_taking, after_ticks, feedback_of, is_dry, is_due, out_level, settled_out, settled_when_due}
-use Rattle.uac_lanes.specs.InterfaceStreams.{changed_at}
+use Rattle.uac_device_streams.specs.InterfaceStreams.{changed_at}
 use Rattle.uac_device.specs.DeviceWorld.{DeviceWorld, after_advance, feedback_in, is_on, next_ticks, after_receiving, set_jack, after_settling, after_tick}
 use Rattle.uac_device.specs.DeviceWorld.{after_sending_packet as device_sends}
-use Rattle.uac_script.specs.Phrase.{SaidMark}
-use Rattle.uac_streaming.specs.Telling.{Telling, at_rest}
-use Rattle.uac_streaming.specs.StreamingWorld.{StreamingWorld, all_reported, all_settled, fetched_lines, given_at, in_packet_turn, in_packets, is_in_due, is_out_due, loses_in, loses_out, loses_report, numbers, out_packets, out_turn, packet_fetched, packet_sent, packet_to, place_of, report_lines, report_made, report_turn, sent_lines, settled_turn}
+use Rattle.uac_script.specs.Phrase.{PhraseMark}
+use Rattle.uac_streaming.specs.Telling.{Telling, without_event}
+use Rattle.uac_streaming.specs.StreamingWorld.{StreamingWorld, all_reported, all_settled, fetched_lines, given_at, in_packet_turn, in_packets, is_in_due, is_out_due, loses_in, loses_out, loses_report, numbers, out_packets, out_turn, packet_fetched, packet_sent, packet_to, stream_index, feedback_lines, report_made, report_turn, sent_lines, settled_turn}
 use Rattle.uac_running.specs.declared.jacks.Jack.{Jack}
 use Rattle.uac_running.specs.RunningWorld.{RunningWorld, streaming_of, with_streaming}
 use Rattle.uac_running.specs.Events.{after_all_jacks, domain_microframe, domain_microframes, ends_and_reports, microframe, next_frame, packets_and_ticks, tick, tick_times}
@@ -86,7 +86,7 @@ module _ (function : FunctionFields) (interface : ℕ) where
     pub plays : Plays beat w.device
     pub given_is : w.history ≡ given
 
-  module _ (detail : ℕ) (marks : List SaidMark) where
+  module _ (detail : ℕ) (marks : List PhraseMark) where
     module _ (given : SteadyHistory) (beat : Option Beat) where
       out_beats : (n : ℕ) (w : StreamingWorld) → Beats beat given w → Beats beat given (out_turn detail marks n w).world
       unfolding out_turn packet_sent after_receiving
@@ -94,7 +94,7 @@ module _ (function : FunctionFields) (interface : ℕ) where
         where
           by : (b : Bool)
               → Beats beat given (if b then record { lines = sent_lines detail (loses_out marks n) n w; world = packet_sent (loses_out marks n) n w }
-              else at_rest w).world
+              else without_event w).world
           by true = record {
             plays = record {
               function_is = beats.plays.function_is;
@@ -113,7 +113,7 @@ module _ (function : FunctionFields) (interface : ℕ) where
         where
           by : (b : Bool)
               → Beats beat given (if b then record { lines = fetched_lines detail (loses_in marks n) n w; world = packet_fetched (loses_in marks n) n w }
-              else at_rest w).world
+              else without_event w).world
           by true = record {
             plays = record { function_is = beats.plays.function_is; own = beats.plays.own; others = beats.plays.others };
             given_is = beats.given_is;
@@ -136,7 +136,7 @@ module _ (function : FunctionFields) (interface : ℕ) where
           → Beats beat given (report_turn detail marks n w).world
       unfolding report_turn feedback_in
       report_other n w other beats =
-          subst (λ (o : Option OutStream). Beats beat given (option_map_or (λ value. record { lines = report_lines detail (loses_report marks n) value n; world = report_made (loses_report marks n) value n w }) (option_and_then feedback_of o) (at_rest w)).world)
+          subst (λ (o : Option OutStream). Beats beat given (option_map_or (λ value. record { lines = feedback_lines detail (loses_report marks n) value n; world = report_made (loses_report marks n) value n w }) (option_and_then feedback_of o) (without_event w)).world)
           (sym (beats.plays.others n other)) beats
 
     settled_here : (given : SteadyHistory) (beat : Option Beat) (w : StreamingWorld) → Beats beat given w
@@ -154,32 +154,32 @@ module _ (function : FunctionFields) (interface : ℕ) where
     }
 
     report_here : (given : SteadyHistory) (beat : Option Beat) (w : StreamingWorld) → Beats beat given w
-        → Beats beat (given_following (loses_report marks interface) (place_of function interface) beat given) (report_turn detail marks interface w).world
+        → Beats beat (given_following (loses_report marks interface) (stream_index function interface) beat given) (report_turn detail marks interface w).world
     unfolding report_turn report_made feedback_in feedback_of
     report_here given beat w beats =
-        subst (λ (b : Option Beat). Beats beat (given_following lost (place_of function interface) b given) (option_map_or made (option_and_then feedback_of (w.device.outs interface)) (at_rest w)).world)
+        subst (λ (b : Option Beat). Beats beat (given_following lost (stream_index function interface) b given) (option_map_or made (option_and_then feedback_of (w.device.outs interface)) (without_event w)).world)
         beats.plays.own (by (w.device.outs interface))
       where
         lost : Bool
         lost = loses_report marks interface
 
         made : ℕ → Telling StreamingWorld
-        made value = record { lines = report_lines detail lost value interface; world = report_made lost value interface w }
+        made value = record { lines = feedback_lines detail lost value interface; world = report_made lost value interface w }
 
         due : (value : ℕ) (told : Bool)
-            → Beats beat (told_at lost (place_of function interface) told given)
-            (option_map_or made (if told then Some value else None) (at_rest w)).world
+            → Beats beat (told_at lost (stream_index function interface) told given)
+            (option_map_or made (if told then Some value else None) (without_event w)).world
         due value true = record {
           plays = record { function_is = beats.plays.function_is; own = beats.plays.own; others = beats.plays.others };
           given_is =
-              ap (λ (f : FunctionFields). given_at (place_of f interface) (λ p. with_report_given p lost) w.history) beats.plays.function_is
-              ∙ ap (given_at (place_of function interface) (λ p. with_report_given p lost)) beats.given_is;
+              ap (λ (f : FunctionFields). given_at (stream_index f interface) (λ p. with_report_given p lost) w.history) beats.plays.function_is
+              ∙ ap (given_at (stream_index function interface) (λ p. with_report_given p lost)) beats.given_is;
         }
         due value false = beats
 
         by : (o : Option OutStream)
-            → Beats beat (given_following lost (place_of function interface) (option_map beat_of o) given)
-            (option_map_or made (option_and_then feedback_of o) (at_rest w)).world
+            → Beats beat (given_following lost (stream_index function interface) (option_map beat_of o) given)
+            (option_map_or made (option_and_then feedback_of o) (without_event w)).world
         by None = beats
         by (Some o) = due (option_map_or (λ target. report_of o.stream.nominal target (out_level o)) o.target o.stream.nominal.f) (is_told (beat_of o))
 
@@ -202,14 +202,14 @@ module _ (function : FunctionFields) (interface : ℕ) where
           (settled_other given (option_map next_beat beat)) (settled_here given beat) (numbers w.device.function) w (numbers_differ w.device.function) (here_among w beats) beats
 
       pub all_reported_beat : (w : StreamingWorld) → Beats beat given w
-          → Beats beat (given_following (loses_report marks interface) (place_of function interface) beat given) (all_reported detail marks w).world
+          → Beats beat (given_following (loses_report marks interface) (stream_index function interface) beat given) (all_reported detail marks w).world
       unfolding all_reported
       all_reported_beat w beats =
           turns_once (report_turn detail marks) interface (Beats beat given) (Beats beat following) (report_other given beat)
           (report_other following beat) (report_here given beat) (numbers w.device.function) w (numbers_differ w.device.function) (here_among w beats) beats
         where
           following : SteadyHistory
-          following = given_following (loses_report marks interface) (place_of function interface) beat given
+          following = given_following (loses_report marks interface) (stream_index function interface) beat given
 
   -- ---- ticks
 
@@ -272,10 +272,10 @@ module _ (function : FunctionFields) (interface : ℕ) where
 
   -- ---- a microframe
 
-  pub microframe_beats : (among : Among interface (numbers function)) (marks : List SaidMark) (r : RunningWorld) (beat : Option Beat) (given : SteadyHistory)
+  pub microframe_beats : (among : Among interface (numbers function)) (marks : List PhraseMark) (r : RunningWorld) (beat : Option Beat) (given : SteadyHistory)
       → Beats beat given (streaming_of r)
       → Beats (option_map next_beat beat)
-      (given_following (loses_report marks interface) (place_of function interface) (option_map next_beat beat) given)
+      (given_following (loses_report marks interface) (stream_index function interface) (option_map next_beat beat) given)
       (streaming_of (microframe marks r).world)
   unfolding microframe packets_and_ticks ends_and_reports
   microframe_beats among marks r beat given beats =

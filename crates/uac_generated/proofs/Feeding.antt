@@ -17,7 +17,7 @@ use Rattle.uac_grammar.specs.declared.fault.ReadStop.TheVariants.{Fault}
 use Rattle.uac_grammar.proofs.Readings.{shown_stop_first, shown_stop_stays}
 use Rattle.uac_topology_rules.specs.declared.fault.TopologyFault.{TopologyFault}
 use Rattle.uac_topology.specs.Function.{FunctionFields}
-use Rattle.uac_topology.specs.Topology.{first_broken}
+use Rattle.uac_topology.specs.Topology.{first_fault_of}
 use Rattle.uac_units.specs.Hearing.{Reading}
 use Rattle.uac_script.specs.Phrase.{bytes_line, go_line}
 use Rattle.uac_running.specs.RunningWorld.{at_start}
@@ -105,6 +105,6 @@ unfolding step step_go
 gone_is d shown below =
     let bytes : List ℕ = descriptor_of (1 + d) in
     let begun : FunctionFields → Step = λ function. done (running (at_start bytes function shown)) (ready_line function ∷ []) in
-    ap (λ (blocks : List Block). if_no_fault (first_fault bytes) (if_sound (first_broken blocks) (begun (function_of blocks)))) (read_back d below)
-    ∙ ap (λ (o : Option GrammarFault). if_no_fault o (if_sound (first_broken (blocks_at d)) (begun (function_at d)))) (none_faulty d below)
+    ap (λ (blocks : List Block). if_no_fault (first_fault bytes) (if_sound (first_fault_of blocks) (begun (function_of blocks)))) (read_back d below)
+    ∙ ap (λ (o : Option GrammarFault). if_no_fault o (if_sound (first_fault_of (blocks_at d)) (begun (function_at d)))) (none_faulty d below)
     ∙ ap (λ (o : Option TopologyFault). if_sound o (begun (function_at d))) (none_broken d below)

@@ -8,7 +8,7 @@ use Rattle.uac_pcm.specs.declared.tones.Tone.TheVariants.{Noise}
 use Rattle.uac_units.specs.Hearing.{Reading}
 use Rattle.uac_topology.specs.Function.{FunctionFields}
 use Rattle.uac_request.specs.Requests.{setup_of}
-use Rattle.uac_script.specs.Phrase.{SaidMark, Phrase, control_line, deviate_line, go_line, noise_tone, report_line, microframes_line, track_line}
+use Rattle.uac_script.specs.Phrase.{PhraseMark, Phrase, control_line, deviate_line, go_line, noise_tone, report_line, microframes_line, track_line}
 use Rattle.uac_script.specs.LineReading.{answer}
 use Rattle.uac_transcript.specs.Transcript.{Said}
 use Rattle.uac_running.specs.RunningWorld.{RunningWorld, at_start, with_deviation, with_track}
@@ -60,7 +60,7 @@ module _ (function : FunctionFields) (streams : function.streams ≡ the_stream 
   AfterEights eights = Plays (0 + 8 * eights) ((0 + 8 * eights) / 8)
 
   module _ (r : RunningWorld) (same : r.device.function ≡ function) where
-    runs_is : (count : ℕ) (marks : List SaidMark) → list_all (names_stream function.streams) marks ≡ true
+    runs_is : (count : ℕ) (marks : List PhraseMark) → list_all (names_stream function.streams) marks ≡ true
         → step (microframes_line (pos count) marks) (running r) ≡ done (running (microframes marks count r).world) (microframes marks count r).lines
     unfolding step
     runs_is count marks placed =

@@ -1,4 +1,4 @@
--- Where each terminal has clock 1, no other clock stands after an output terminal.
+-- Where each terminal has clock 1, no other clock stands behind an output terminal.
 use Rattle.std.proofs.Common.{◌≡◌, sym, refl, subst, ap, ℕ, zero, suc, ◌==◌, ◌&&◌, ◌||◌, not, if◌then◌else◌, Bool, true, false, List, [], ◌∷◌, ◌++◌, length, None, arith}
 use Rattle.std.specs.List.{flat_map, list_all, list_any}
 use Rattle.std.proofs.lemmas.Bool.{and_parts, true≢false}
@@ -41,7 +41,7 @@ none_mapped below none [] = refl
 none_mapped below none (v ∷ vs) = none_joined (below v) (flat_map below vs) (none v) (none_mapped below none vs)
 
 module _ (es : List Entity) (all : list_all has_clock_one es ≡ true) where
-  -- no clock but 1 stands after an entity
+  -- no clock but 1 stands behind an entity
   none_behind : (n place : ℕ) → list_any is_other (clocks_within n es place) ≡ false
   unfolding clocks_within clocks_step
   none_behind zero place = refl

@@ -21,7 +21,7 @@ use Rattle.uac_store.specs.declared.keys.Key.{Key}
 use Rattle.uac_alt.specs.AltStreams.{StreamFields, stream_at, stream_of}
 use Rattle.uac_request.specs.Requests.{rate_at}
 use Rattle.uac_device.specs.DeviceWorld.{stream_in_setting}
-use Rattle.uac_streaming.specs.StreamingWorld.{place_of}
+use Rattle.uac_streaming.specs.StreamingWorld.{stream_index}
 use Rattle.uac_bands.proofs.Once.{known_among}
 use Rattle.uac_configuration.specs.Description.{function_of}
 use Rattle.uac_running.specs.RunningNames.{has_out, names_stream}
@@ -73,8 +73,8 @@ module _ (function : FunctionFields) (streams : function.streams ≡ the_stream 
   found : find (λ s. s.number == 1) function.streams ≡ Some the_stream
   found = ap (find (λ s. s.number == 1)) streams
 
-  placed : place_of function 1 ≡ Some 0
-  placed = ap (λ (ss : List StreamInterface). place_of (record function { streams = ss }) 1) streams
+  placed : stream_index function 1 ≡ Some 0
+  placed = ap (λ (ss : List StreamInterface). stream_index (record function { streams = ss }) 1) streams
 
   with_parts : (nominal : Nominal) (stream : StreamFields) → stream_at function the_stream play_setting nominal ≡ Some stream → stream.period ≡ 8
   unfolding stream_at

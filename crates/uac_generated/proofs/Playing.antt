@@ -8,15 +8,15 @@ use Rattle.uac_topology.specs.Function.{FunctionFields}
 use Rattle.uac_store.specs.declared.keys.Key.{Key}
 use Rattle.uac_alt.specs.AltStreams.{StreamFields}
 use Rattle.uac_units.specs.Hearing.{Reading}
-use Rattle.uac_request.specs.Requests.{after_request, request_state, reply_of, setup_of}
-use Rattle.uac_lanes.specs.InterfaceStreams.{out_from}
-use Rattle.uac_device.specs.DeviceWorld.{DeviceWorld, after_control, after_deviation, fresh, stream_in_setting, tells_done}
+use Rattle.uac_request.specs.Requests.{after_request, request_state, reply_of, setup_of, is_done_answer}
+use Rattle.uac_device_streams.specs.InterfaceStreams.{out_from}
+use Rattle.uac_device.specs.DeviceWorld.{DeviceWorld, after_control, after_deviation, fresh, stream_in_setting}
 use Rattle.uac_device.specs.DeviceWorld as device
 use Rattle.uac_flow.specs.FlowStreams.{OutStream, started_out}
 use Rattle.uac_mixer.specs.declared.link.When.{When}
 use Rattle.uac_mixer.specs.declared.link.When.TheVariants as when
-use Rattle.uac_script.specs.Phrase.{SaidMark}
-use Rattle.uac_streaming.specs.StreamingWorld.{StreamingWorld, after_following, given_at, loses_report, numbers, place_of}
+use Rattle.uac_script.specs.Phrase.{PhraseMark}
+use Rattle.uac_streaming.specs.StreamingWorld.{StreamingWorld, after_following, given_at, loses_report, numbers, stream_index}
 use Rattle.uac_running.specs.RunningWorld.{RunningWorld, at_start, streaming_of, with_deviation, with_track}
 use Rattle.uac_running.specs.RunningTransfers.{acts, breaks_before, after_transfer}
 use Rattle.uac_running.specs.Events.{microframe, microframes}
@@ -30,7 +30,7 @@ use Rattle.uac_generated.proofs.Timely.{Beat, IsWell, beat_of, bound, given_foll
 -- eight microframes
 pub record HasOne (function : FunctionFields) (place : ℕ) : Type 0 where
   pub among : Among 1 (numbers function)
-  pub placed : place_of function 1 ≡ Some place
+  pub placed : stream_index function 1 ≡ Some place
   pub eight : (controls : List (Key × ℤ)) (stream : StreamFields) → stream_in_setting function controls 1 1 ≡ Some stream
       → stream.out ≡ true → stream.period ≡ 8
 
@@ -50,7 +50,7 @@ module _ (function : FunctionFields) (place : ℕ) where
   -- ---- microframes
 
   module _ (has : HasOne function place) where
-    following : (marks : List SaidMark) (lost : Bool) (r : RunningWorld) (beat : Option Beat) (given : SteadyHistory) → loses_report marks 1 ≡ lost
+    following : (marks : List PhraseMark) (lost : Bool) (r : RunningWorld) (beat : Option Beat) (given : SteadyHistory) → loses_report marks 1 ≡ lost
         → Beats function 1 beat given (streaming_of r)
         → Beats function 1 (option_map next_beat beat) (given_following lost (Some place) (option_map next_beat beat) given) (streaming_of (microframe marks r).world)
     following marks lost r beat given is beats =
@@ -59,7 +59,7 @@ module _ (function : FunctionFields) (place : ℕ) where
         (microframe_beats function 1 has.among marks r beat given beats))
 
     -- so many microframes that lose no report, the last of which ends eight, so that a report came
-    pub all_come : (marks : List SaidMark) (count passed most : ℕ) (r : RunningWorld) → loses_report marks 1 ≡ false
+    pub all_come : (marks : List PhraseMark) (count passed most : ℕ) (r : RunningWorld) → loses_report marks 1 ≡ false
         → (passed + suc count) % 8 ≡ 0 → IsPlaying passed most r → IsPlaying 0 0 (microframes marks (suc count) r).world
     unfolding microframes
     all_come marks zero passed most r comes due is = record {
@@ -77,7 +77,7 @@ module _ (function : FunctionFields) (place : ℕ) where
         })
 
     -- so many that lose no report
-    pub some_come : (marks : List SaidMark) (count passed most : ℕ) (r : RunningWorld) → loses_report marks 1 ≡ false
+    pub some_come : (marks : List PhraseMark) (count passed most : ℕ) (r : RunningWorld) → loses_report marks 1 ≡ false
         → IsPlaying passed most r → IsPlaying (passed + count) most (microframes marks count r).world
     unfolding microframes
     some_come marks zero passed most r comes is =
@@ -92,7 +92,7 @@ module _ (function : FunctionFields) (place : ℕ) where
         }))
 
     -- so many that lose their reports, of the first 32
-    pub all_lost : (marks : List SaidMark) (count passed : ℕ) (r : RunningWorld) → loses_report marks 1 ≡ true → passed + count < 32
+    pub all_lost : (marks : List PhraseMark) (count passed : ℕ) (r : RunningWorld) → loses_report marks 1 ≡ true → passed + count < 32
         → IsPlaying passed (passed / 8) r → IsPlaying (passed + count) ((passed + count) / 8) (microframes marks count r).world
     unfolding microframes
     all_lost marks zero passed r lost few is =
@@ -181,9 +181,9 @@ module _ (function : FunctionFields) (place : ℕ) where
     unfolding device.after_restart after_following
     started w plays = by begun refl
       where
-        fresh_given : given_at (place_of w.function 1) with_restart_given r.history ≡ with_restart_given place is.given
+        fresh_given : given_at (stream_index w.function 1) with_restart_given r.history ≡ with_restart_given place is.given
         fresh_given =
-            ap (λ (f : FunctionFields). given_at (place_of f 1) with_restart_given r.history) plays.function_is
+            ap (λ (f : FunctionFields). given_at (stream_index f 1) with_restart_given r.history) plays.function_is
             ∙ ap (λ (o : Option ℕ). given_at o with_restart_given r.history) has.placed ∙ ap (with_restart_given place) is.beats.given_is
 
         anew : KeepsReports place 0 (with_restart_given place is.given)
@@ -241,7 +241,7 @@ module _ (function : FunctionFields) (place : ℕ) where
 
   pub setting_set : (has : HasOne function place) (r : RunningWorld) → IsPlaying 0 0 r → IsPlaying 0 0 (after_transfer (setup_of setting_setup) [] r)
   unfolding after_transfer after_control
-  setting_set has r is = of_after _ (by (tells_done (reply_of r.device.function (request_state r.device.controls r.device.settings) (setup_of setting_setup) [])) r.breaks) (after_transfer (setup_of setting_setup) [] r) refl
+  setting_set has r is = of_after _ (by (is_done_answer (reply_of r.device.function (request_state r.device.controls r.device.settings) (setup_of setting_setup) [])) r.breaks) (after_transfer (setup_of setting_setup) [] r) refl
     where
       asked : DeviceWorld
       asked =

@@ -18,7 +18,7 @@ use Rattle.uac_topology_rules.specs.Offenders.{first_place, offender, number_at,
 use Rattle.uac_topology_rules.specs.Rules.{breaks_u1, breaks_u2, breaks_u3, breaks_u4, breaks_u5, breaks_u8, breaks_u9, breaks_u10, breaks_u11, breaks_u12, breaks_u13, breaks_u14, at_stream, is_usb, is_wrong, exceeds, names_ninth}
 use Rattle.uac_topology_rules.specs.RuleFaults.{rule_fault, broken_ends, broken_names, broken_shapes, broken_walks, of_entity, of_interface}
 use Rattle.uac_topology_rules.proofs.LinkCyclesLemmas.{cycles_are_named}
-use Rattle.uac_topology.specs.Topology.{first_broken, streams_in}
+use Rattle.uac_topology.specs.Topology.{first_fault_of, streams_in}
 use Rattle.uac_gen.specs.Descriptor.{blocks_with, control_total, whole_total}
 use Rattle.uac_generated.proofs.Descending.{descends_from, none_round}
 use Rattle.uac_generated.proofs.OneClock.{has_clock_one, keeps_u11}
@@ -85,8 +85,8 @@ ends d below =
     of_thirty (λ d. broken_ends (entities_at d) (declared_settings (blocks_at d)) (streams_in (blocks_at d))) (λ d. None) refl d below
 
 -- no rule is broken
-pub none_broken : (d : ℕ) → d < 30 → first_broken (blocks_at d) ≡ None
-unfolding first_broken rule_fault
+pub none_broken : (d : ℕ) → d < 30 → first_fault_of (blocks_at d) ≡ None
+unfolding first_fault_of rule_fault
 none_broken d below =
     ap (λ (o : Option TopologyFault). option_or o (option_or (broken_walks es) (option_or (broken_shapes es) (option_or last None)))) (names d below)
     ∙ ap (λ (o : Option TopologyFault). option_or o (option_or (broken_shapes es) (option_or last None))) (walks d below)

@@ -19,7 +19,7 @@ use Rattle.uac_edges.specs.Numerals.{natural, numeral}
 use Rattle.uac_edges.proofs.NumeralsLemmas.{decimal-natural}
 use Rattle.uac_script.specs.declared.line.MarkKind.TheVariants.{Out, Feedback}
 use Rattle.uac_script.specs.Words.{hex_of, words_of}
-use Rattle.uac_script.specs.Phrase.{SaidMark, Phrase, noise_tone, bytes_line, go_line, control_line, track_line, deviate_line, microframes_line, report_line, are_marks_in_range, is_in_range, is_within}
+use Rattle.uac_script.specs.Phrase.{PhraseMark, Phrase, noise_tone, bytes_line, go_line, control_line, track_line, deviate_line, microframes_line, report_line, are_marks_in_range, is_in_range, is_within}
 use Rattle.uac_script.specs.Line.{IsRow, mark_word}
 use Rattle.uac_script.specs.LineReading.{answer}
 use Rattle.uac_script.proofs.Answered.{says_only}
@@ -181,10 +181,10 @@ deviation_said drawn below =
 
 -- ---- microframes
 
-abbrev pub no_report : SaidMark
+abbrev pub no_report : PhraseMark
 no_report = record { kind = Feedback; interface = pos 1 }
 
-abbrev pub no_packet : SaidMark
+abbrev pub no_packet : PhraseMark
 no_packet = record { kind = Out; interface = pos 1 }
 
 mark_is : codes "f1" ∷ [] ≡ map mark_word (no_report ∷ [])

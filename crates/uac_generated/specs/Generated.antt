@@ -23,14 +23,14 @@ abbrev pub GeneratedScriptsAreScripts : Type 0
 GeneratedScriptsAreScripts = (number : ℕ) → number < 2 ^ 32 → IsScript number
 
 -- no line was refused, and the script may end there
-pub record IsDone (a : After) : Type 0 where
+pub record IsFinishedScript (a : After) : Type 0 where
   pub none_refused : a.refusal ≡ None
   pub ends : finish_of a.world ≡ Ok tt
 
 -- so it is whatever the meters show
 abbrev pub GeneratedScriptsAreDone : Type 0
 GeneratedScriptsAreDone =
-    (number : ℕ) (shown : List Reading) → number < 2 ^ 32 → IsDone (after_texts (generated_lines number) shown)
+    (number : ℕ) (shown : List Reading) → number < 2 ^ 32 → IsFinishedScript (after_texts (generated_lines number) shown)
 
 -- no clock is off by more than a thousandth, and no stream loses four feedback reports in succession
 abbrev pub GeneratedScriptsAreSteady : Type 0

@@ -10,10 +10,10 @@ use Rattle.uac_sentence.specs.Grammar.{grammar, start, state_after, first_fault,
 use Rattle.uac_sentence.specs.Sentence.{spellings, IsSentence}
 use Rattle.uac_sentence.specs.declared.faults.GrammarFault.{GrammarFault}
 use Rattle.uac_sentence.specs.declared.states.State.{State}
-use Rattle.uac_sentence.proofs.FaultLaw.{shown_stays}
-use Rattle.uac_sentence.proofs.ProgressLaw.{nothing_read, block_read, read_faults, read_sentence, fault_at_end}
-use Rattle.uac_sentence.proofs.ReachLaw.{read_reach}
-use Rattle.uac_sentence.proofs.SentenceLaw.{bytes_left, bytes_right}
+use Rattle.uac_sentence.proofs.FaultLemmas.{shown_stays}
+use Rattle.uac_sentence.proofs.ProgressLemmas.{nothing_read, block_read, read_faults, read_sentence, fault_at_end}
+use Rattle.uac_sentence.proofs.ProgressReachLemmas.{read_reach}
+use Rattle.uac_sentence.proofs.SentenceLemmas.{bytes_left, bytes_right}
 use Rattle.uac_grammar.specs.declared.fault.ReadStop.{ReadStop}
 use Rattle.uac_grammar.specs.declared.fault.ReadStop.TheVariants.{Fault, NoMemory}
 use Rattle.uac_grammar.specs.ReaderKept.{IsUnstopped, most_taken, IsPartial, IsGoing, IsReaderOf}

@@ -8,7 +8,7 @@ use Rattle.uac_sentence.specs.Cutting.{IsPiece}
 use Rattle.uac_sentence.specs.Fault.{at_place, faults_from}
 use Rattle.uac_sentence.specs.Grammar.{grammar, least, rule_broken, rule_at_end}
 use Rattle.uac_sentence.specs.declared.states.State.{State}
-use Rattle.uac_sentence.proofs.ProgressLaw.{fault_unread, fault_broken, fault_short, fault_lone, fault_partial, fault_at_end}
+use Rattle.uac_sentence.proofs.ProgressLemmas.{fault_unread, fault_broken, fault_short, fault_lone, fault_partial, fault_at_end}
 use Rattle.uac_grammar.specs.ReaderKept.{IsPartial}
 use Rattle.uac_grammar.specs.Verdict.{Shows}
 

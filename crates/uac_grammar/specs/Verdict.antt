@@ -57,6 +57,6 @@ is_kept Kept = true
 is_kept _ = false
 
 -- what is pending after these bytes
-abbrev pub left_by : Verdict → List ℕ → List ℕ
-left_by Kept bytes = []
-left_by _ bytes = bytes
+abbrev pub pending_after : Verdict → List ℕ → List ℕ
+pending_after Kept bytes = []
+pending_after _ bytes = bytes

@@ -49,7 +49,7 @@ pub(crate) fn read_block(
         Context::DeviceFront => in_front(alloc, bytes),
         Context::ControlInterface => in_control(alloc, bytes),
         Context::StreamingInterface => in_streaming(alloc, bytes),
-        Context::ForeignInterface => parting(alloc, bytes),
+        Context::ForeignInterface => parting_block(alloc, bytes),
     }
 }
 
@@ -100,7 +100,7 @@ fn in_front(alloc: Global, bytes: &[u8]) -> Result<Option<Block>, NoMemory>
         }
         class_endpoint_block(alloc, bytes)
     } else {
-        parting(alloc, bytes)
+        parting_block(alloc, bytes)
     }
 }
 
@@ -117,7 +117,7 @@ fn in_control(alloc: Global, bytes: &[u8]) -> Result<Option<Block>, NoMemory>
     } else if bytes[1] == CS_ENDPOINT {
         class_endpoint_block(alloc, bytes)
     } else {
-        parting(alloc, bytes)
+        parting_block(alloc, bytes)
     }
 }
 
@@ -134,13 +134,13 @@ fn in_streaming(alloc: Global, bytes: &[u8]) -> Result<Option<Block>, NoMemory>
     } else if bytes[1] == CS_ENDPOINT {
         class_endpoint_block(alloc, bytes)
     } else {
-        parting(alloc, bytes)
+        parting_block(alloc, bytes)
     }
 }
 
 /// A block that parts the descriptor in every context, or one that is kept whole.
 #[tactic(auto, using(crate::proofs::RowLemmas::row_of_whole, std::proofs::lemmas::Bool::Decides::nat_tests))]
-fn parting(alloc: Global, bytes: &[u8]) -> Result<Option<Block>, NoMemory>
+fn parting_block(alloc: Global, bytes: &[u8]) -> Result<Option<Block>, NoMemory>
     requires { IsWhole bytes.now }
     ensures { IfOk result (λ found. found ≡ read_row (row_in contexts.ForeignInterface bytes.now) bytes.now) }
 {

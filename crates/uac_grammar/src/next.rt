@@ -3,7 +3,7 @@
 ghost use Rattle.std.specs.Prelude.{◌≡◌, ◌≤◌, ◌<◌, ◌+◌, ◌++◌, [], length, take};
 ghost use Rattle.uac_sentence.specs.declared.states.TheConstants.{FURTHEST};
 ghost use Rattle.uac_grammar.specs.ReaderKept.{IsPartial};
-ghost use Rattle.uac_grammar.specs.Verdict.{IsVerdict, bytes_wanted, left_by};
+ghost use Rattle.uac_grammar.specs.Verdict.{IsVerdict, bytes_wanted, pending_after};
 
 use crate::judge::{Verdict, judge};
 use arrayvec::ArrayVec;
@@ -40,7 +40,7 @@ pub(crate) fn judge_next(
     ensures short { result.size ≤ 255 }
     ensures verdict { IsVerdict blocks.old.items blocks.new.items state.old state.new place
         (pending.old.items ++ take result.count bytes.now) result.verdict }
-    ensures left { pending.new.items ≡ left_by result.verdict (pending.old.items ++ take result.count bytes.now) }
+    ensures left { pending.new.items ≡ pending_after result.verdict (pending.old.items ++ take result.count bytes.now) }
 {
     if pending.is_empty() {
         judge_front(alloc, blocks, state, place, pending, bytes)
@@ -66,7 +66,7 @@ fn judge_front(
     ensures size { result.size ≡ result.count }
     ensures short { result.size ≤ 255 }
     ensures verdict { IsVerdict blocks.old.items blocks.new.items state.old state.new place (take result.count bytes.now) result.verdict }
-    ensures left { pending.new.items ≡ left_by result.verdict (take result.count bytes.now) }
+    ensures left { pending.new.items ≡ pending_after result.verdict (take result.count bytes.now) }
 {
     let count = bytes_wanted(bytes[0]).min(bytes.len());
     let front = &bytes[..count];
@@ -100,7 +100,7 @@ fn judge_more(
     ensures short { result.size ≤ 255 }
     ensures verdict { IsVerdict blocks.old.items blocks.new.items state.old state.new place
         (pending.old.items ++ take result.count bytes.now) result.verdict }
-    ensures left { pending.new.items ≡ left_by result.verdict (pending.old.items ++ take result.count bytes.now) }
+    ensures left { pending.new.items ≡ pending_after result.verdict (pending.old.items ++ take result.count bytes.now) }
 {
     let count = (bytes_wanted(pending[0]) - pending.len()).min(bytes.len());
     let _fits = pending.try_extend_from_slice(&bytes[..count]);

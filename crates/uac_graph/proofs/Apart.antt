@@ -15,7 +15,7 @@ use Rattle.uac_topology_rules.proofs.Found.{any_at}
 use Rattle.uac_graph.specs.Fitness.{IsSignalGraph}
 use Rattle.uac_graph.specs.Meaning.{entity}
 use Rattle.uac_graph.specs.Needs.{reaches}
-use Rattle.uac_graph.specs.Orders.{IsOrder, holds}
+use Rattle.uac_graph.specs.Orders.{IsRenderOrder, holds}
 use Rattle.uac_graph.proofs.Links.{links_at}
 use Rattle.uac_graph.proofs.Lookups.{id_at}
 use Rattle.uac_graph.proofs.Walking.{signal_below}
@@ -79,7 +79,7 @@ sources_apart entities n id sound signal =
         (subst (λ (n : ℕ). has_walk graph n place ≡ false) (sym (length-map entities _)) (sound.acyclic place (signal_below entities id signal))) m
 
 -- where the entity's place isn't there, no place of its id is
-not_held : (entities : List Entity) (places slice : List ℕ) (id place : ℕ) → IsSignalGraph entities → IsOrder entities places
+not_held : (entities : List Entity) (places slice : List ℕ) (id place : ℕ) → IsSignalGraph entities → IsRenderOrder entities places
     → place ≡ place_of entities id → slice ≡ places → list_any (λ p. eqb p place) slice ≡ false → holds entities places id ≡ false
 not_held entities places slice id place sound order where_it_is same absent =
     list_any_none (λ p. eqb (at entities p).id id) places
@@ -93,7 +93,7 @@ not_held entities places slice id place sound order where_it_is same absent =
 
 -- nor once its sources are ordered
 pub not_held_yet : (entities : List Entity) (links id place : ℕ) (old mid slice : List ℕ) → IsSignalGraph entities → is_clock (entity entities id).kind ≡ false
-    → IsOrder entities old → place ≡ place_of entities id → slice ≡ old → list_any (λ p. eqb p place) slice ≡ false
+    → IsRenderOrder entities old → place ≡ place_of entities id → slice ≡ old → list_any (λ p. eqb p place) slice ≡ false
     → ((k : ℕ) → holds entities mid k ≡ (holds entities old k || list_any (λ s. reaches entities links s k) (signal_sources (entity entities id))))
     → holds entities mid id ≡ false
 not_held_yet entities links id place old mid slice sound signal order where_it_is same absent before =
@@ -104,7 +104,7 @@ not_held_yet entities links id place old mid slice sound signal order where_it_i
 
 -- places that stand once, and one more that isn't among them
 pub apart_more : (entities : List Entity) (id place : ℕ) (mid : List ℕ) → is_clock (entity entities id).kind ≡ false → place ≡ place_of entities id
-    → holds entities mid id ≡ false → IsOrder entities mid
+    → holds entities mid id ≡ false → IsRenderOrder entities mid
     → (j k : ℕ) → j < k → k < length (mid ++ place ∷ []) → get_or (mid ++ place ∷ []) j 0 ≡ get_or (mid ++ place ∷ []) k 0 → ⊥
 apart_more entities id place mid signal where_it_is absent order j k less below same =
     elim (cases_lt k (length mid)) [

@@ -11,7 +11,7 @@ use Rattle.uac_graph.specs.GraphControls.{Controls}
 use Rattle.uac_graph.specs.Fitness.{IsSignalGraph}
 use Rattle.uac_graph.specs.Jobs.{AreJobs}
 use Rattle.uac_graph.specs.Needs.{unit_count}
-use Rattle.uac_graph.specs.Orders.{IsOrder, holds}
+use Rattle.uac_graph.specs.Orders.{IsRenderOrder, holds}
 use Rattle.uac_graph.specs.Tasks.{is_worked, task_of, tasks_at, work_of}
 use Rattle.uac_graph.specs.Wiring.{AreGiven, AreRendered, Frames}
 use Rattle.uac_graph.specs.declared.tasks.Task.{Task}
@@ -64,7 +64,7 @@ pub record IsNext (entities : List Entity) (places : List ℕ) (upto : ℕ) (tas
   pub left : rest ≡ tasks_at entities (drop (next + 1) places)
   pub skips : Skips entities places upto next
 
-module _ (entities : List Entity) (places : List ℕ) (sound : IsSignalGraph entities) (order : IsOrder entities places) where
+module _ (entities : List Entity) (places : List ℕ) (sound : IsSignalGraph entities) (order : IsRenderOrder entities places) where
   skips_none : (upto : ℕ) → Skips entities places upto upto
   skips_none upto = record { units = refl; rendered = λ controls ins old now given before. before }
 
@@ -166,7 +166,7 @@ pub record AreDone (entities : List Entity) (places : List ℕ) (tasks : List Ta
   pub counted : steps + units_left entities places upto ≡ all
 
 module _ {entities : List Entity} {places : List ℕ} {tasks : List Task} {jobs : List Job} {ins : ℕ → List ℤ} {old now : Frames} {count steps all : ℕ}
-    (sound : IsSignalGraph entities) (order : IsOrder entities places) (done : AreDone entities places tasks jobs ins old now count steps all) where
+    (sound : IsSignalGraph entities) (order : IsRenderOrder entities places) (done : AreDone entities places tasks jobs ins old now count steps all) where
   -- the next task
   pub next_of : count < length tasks → IsNext entities places done.upto (get_or tasks count no_task) (drop (count + 1) tasks)
   next_of below =

@@ -19,7 +19,7 @@ use Rattle.uac_graph.specs.Jobs.{FitsFrames, HasJob}
 use Rattle.uac_units.specs.declared.jobs.Job.{Job}
 use Rattle.uac_graph.specs.Meaning.{entity, frame_of, meaning, samples_by}
 use Rattle.uac_graph.specs.Needs.{depends_on}
-use Rattle.uac_graph.specs.Orders.{AreOrders, IsOrder, IsOrderOf, frame_after, holds}
+use Rattle.uac_graph.specs.Orders.{AreOrders, IsRenderOrder, IsOrderOf, frame_after, holds}
 use Rattle.uac_graph.specs.declared.orders.Order.{Order}
 use Rattle.uac_graph.specs.Wiring.{AreGiven, AreRendered, AreWiresOf, Frames, frame_on, samples_on}
 use Rattle.uac_graph.proofs.Equation.{equation}
@@ -60,7 +60,7 @@ frame_meant entities controls ins done place old new sound inside signal unit re
 
 -- the entity at the next place is rendered
 pub step_rendered : (entities : List Entity) (controls : Controls) (ins : ℕ → List ℤ) (places : List ℕ) (i : ℕ) (old mid new : Frames)
-    → IsSignalGraph entities → IsOrder entities places → i < length places → AreGiven entities ins old
+    → IsSignalGraph entities → IsRenderOrder entities places → i < length places → AreGiven entities ins old
     → AreRendered entities controls ins (holds entities (take i places)) old mid
     → ((id : ℕ) → frame_on new id ≡ frame_after entities controls (get_or places i 0) mid id)
     → AreRendered entities controls ins (holds entities (take (i + 1) places)) old new

@@ -8,7 +8,6 @@ pub mod Ticking
 pub mod Ends
 pub mod Walking
 pub mod Rows
-pub mod Needed
 pub mod NeedsLemmas
 pub mod OneSource
 pub mod Rendered

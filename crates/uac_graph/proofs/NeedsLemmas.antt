@@ -20,7 +20,7 @@ use Rattle.uac_topology_rules.specs.Table.{at, nothing, place_of}
 use Rattle.uac_topology_rules.proofs.Found.{any_at}
 use Rattle.uac_graph.specs.Fitness.{IsSignalGraph}
 use Rattle.uac_graph.specs.Meaning.{entity}
-use Rattle.uac_graph.specs.Needs.{depends_on, is_unit, needed, reaches, unit_count}
+use Rattle.uac_graph.specs.Needs.{depends_on, is_unit, needed_units, reaches, unit_count}
 use Rattle.uac_graph.specs.Orders.{IsOrderOf}
 use Rattle.uac_graph.proofs.Links.{source_ends}
 use Rattle.uac_graph.proofs.Lookups.{id_at}
@@ -139,8 +139,8 @@ module _ (entities : List Entity) (domain : ℕ) (sound : IsSignalGraph entities
     each_entity xs (λ k below. itself (suc k) (omega arith)),
   )
 
-  needed_ids : filter needed_named ids ≡ needed entities domain
-  unfolding needed at
+  needed_ids : filter needed_named ids ≡ needed_units entities domain
+  unfolding needed_units at
   needed_ids =
       filter_mapped needed_named (λ (e : Entity). e.id) (λ e. is_unit e.kind && depends_on entities domain e.id) entities
       (each_entity entities (λ k below. entity_itself entities k sound below))
@@ -154,19 +154,19 @@ module _ (entities : List Entity) (domain : ℕ) (sound : IsSignalGraph entities
       by_unit true true c there = there refl
 
   -- the needed units are those on which the domain depends
-  needed_members : (id : ℕ) → list_any (λ n. n == id) (needed entities domain) ≡ needed_named id
+  needed_members : (id : ℕ) → list_any (λ n. n == id) (needed_units entities domain) ≡ needed_named id
   needed_members id =
-      (λ j. list_any (λ n. nat_eq_equiv.symm n id j) (needed entities domain))
+      (λ j. list_any (λ n. nat_eq_equiv.symm n id j) (needed_units entities domain))
       ∙ ap (list_any (eqb id)) (sym needed_ids) ∙ any_needed id
 
-  needed_once : IsDistinct eqb (needed entities domain)
+  needed_once : IsDistinct eqb (needed_units entities domain)
   needed_once = subst (IsDistinct eqb) needed_ids (distinct_kept needed_named ids ids_once)
 
 pub needed_are : (entities : List Entity) (domain id : ℕ) → IsSignalGraph entities
-    → list_any (λ n. n == id) (needed entities domain) ≡ (is_unit (entity entities id).kind && depends_on entities domain id)
+    → list_any (λ n. n == id) (needed_units entities domain) ≡ (is_unit (entity entities id).kind && depends_on entities domain id)
 needed_are entities domain id sound = needed_members entities domain sound id
 
-pub needed_apart : (entities : List Entity) (domain : ℕ) → IsSignalGraph entities → IsDistinct eqb (needed entities domain)
+pub needed_apart : (entities : List Entity) (domain : ℕ) → IsSignalGraph entities → IsDistinct eqb (needed_units entities domain)
 needed_apart entities domain sound = needed_once entities domain sound
 
 -- ---- the same along the domain's order
@@ -195,7 +195,7 @@ module _ (entities : List Entity) (domain : ℕ) (places : List ℕ) (sound : Is
       ∙ (λ j. list_any (λ place. nat_eq_equiv.symm id (id_of place) j) places)
       ∙ order.all id
 
-  same_units : (id : ℕ) → list_any (eqb id) (filter unit_id ordered) ≡ list_any (eqb id) (needed entities domain)
+  same_units : (id : ℕ) → list_any (eqb id) (filter unit_id ordered) ≡ list_any (eqb id) (needed_units entities domain)
   same_units id =
       any_kept unit_id id ordered ∙ ap (λ (b : Bool). unit_id id && b) (ordered_depended id)
       ∙ sym (any_needed entities domain sound id) ∙ ap (list_any (eqb id)) (needed_ids entities domain sound)
@@ -209,26 +209,26 @@ module _ (entities : List Entity) (domain : ℕ) (places : List ℕ) (sound : Is
   )
 
   -- the units in a domain's order are as many as the domain needs
-  needed_count : units_left entities places 0 ≡ length (needed entities domain)
+  needed_count : units_left entities places 0 ≡ length (needed_units entities domain)
   needed_count =
       let u : ℕ → Bool = λ place. is_unit (at entities place).kind in
       sym (length-map (filter u places) id_of)
       ∙ ap length (sym (filter_mapped unit_id id_of u places (each_place places order.order.inside)))
-      ∙ length-from_same_keys nat_eq_equiv (filter unit_id ordered) (needed entities domain) (distinct_kept unit_id ordered ordered_once)
+      ∙ length-from_same_keys nat_eq_equiv (filter unit_id ordered) (needed_units entities domain) (distinct_kept unit_id ordered ordered_once)
       (needed_once entities domain sound) same_units
 
 -- how many units the order has
 pub all_units : (entities : List Entity) (domain : ℕ) (places : List ℕ) → IsSignalGraph entities → IsOrderOf entities domain places
-    → units_left entities places 0 ≡ length (needed entities domain)
+    → units_left entities places 0 ≡ length (needed_units entities domain)
 all_units entities domain places sound order = needed_count entities domain places sound order
 
--- none is left behind its end
+-- none is left past its end
 pub units_end : (entities : List Entity) (places : List ℕ) (i : ℕ) → length places ≤ i → units_left entities places i ≡ 0
 units_end entities places i past = ap (λ (ps : List ℕ). length (filter (λ place. is_unit (at entities place).kind) ps)) (drop_all i places past)
 
 -- a domain needs no more units than there are entities
-pub needed_few : (entities : List Entity) (domain : ℕ) → length (needed entities domain) ≤ length entities
-unfolding needed
+pub needed_few : (entities : List Entity) (domain : ℕ) → length (needed_units entities domain) ≤ length entities
+unfolding needed_units
 needed_few entities domain =
     let n : Entity → Bool = λ e. is_unit e.kind && depends_on entities domain e.id in
     omega (arith, length-map (filter n entities) (λ (e : Entity). e.id), length-filter n entities, count_by-le-length n entities)
@@ -267,3 +267,25 @@ pub reached_by_any : (entities : List Entity) (n id other : ℕ) → IsSignalGra
     → reaches entities n id other ≡ true → reaches entities (length entities) id other ≡ true
 reached_by_any entities n id other sound signal =
     reached_within entities (length entities) n id other sound signal (sound.acyclic (place_of entities id) (signal_below entities id signal))
+
+-- an id of those that pass is one of which the test holds
+of_passing : (test : ℕ → Bool) (kind : Entity → Bool) (id : ℕ) (entities : List Entity)
+    → list_any (λ n. n == id) (map (λ e. e.id) (filter (λ e. kind e && test e.id) entities)) ≡ true → test id ≡ true
+of_passing test kind id [] e = absurd (cc)
+of_passing test kind id (x ∷ xs) e = step (kind x) (test x.id) refl e (of_passing test kind id xs)
+  where
+    named : (t : Bool) → (x.id == id) ≡ t → test x.id ≡ true → (t || list_any (λ n. n == id) (map (λ e. e.id) (filter (λ e. kind e && test e.id) xs))) ≡ true
+        → (list_any (λ n. n == id) (map (λ e. e.id) (filter (λ e. kind e && test e.id) xs)) ≡ true → test id ≡ true) → test id ≡ true
+    named true same holds e more = subst (λ (n : ℕ). test n ≡ true) (eqb-true x.id id same) holds
+    named false same holds e more = more e
+
+    step : (a b : Bool) → test x.id ≡ b
+        → list_any (λ n. n == id) (map (λ e. e.id) (cond (a && b) (x ∷ filter (λ e. kind e && test e.id) xs) (filter (λ e. kind e && test e.id) xs))) ≡ true
+        → (list_any (λ n. n == id) (map (λ e. e.id) (filter (λ e. kind e && test e.id) xs)) ≡ true → test id ≡ true) → test id ≡ true
+    step true true holds e more = named (x.id == id) refl holds e more
+    step true false fails e more = more e
+    step false b q e more = more e
+
+pub needed_depended : (entities : List Entity) (domain id : ℕ) → list_any (λ n. n == id) (needed_units entities domain) ≡ true → depends_on entities domain id ≡ true
+unfolding needed_units
+needed_depended entities domain id e = of_passing (depends_on entities domain) (λ x. is_unit x.kind) id entities e

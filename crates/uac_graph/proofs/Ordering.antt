@@ -17,7 +17,7 @@ use Rattle.uac_topology_rules.proofs.TableSteps.{at_read}
 use Rattle.uac_graph.specs.Fitness.{IsSignalGraph}
 use Rattle.uac_graph.specs.Meaning.{entity}
 use Rattle.uac_graph.specs.Needs.{depends_on, is_end, reaches}
-use Rattle.uac_graph.specs.Orders.{AreOrders, IsKeptOrder, IsOrder, IsOrderOf, holds}
+use Rattle.uac_graph.specs.Orders.{AreOrders, IsKeptOrder, IsRenderOrder, IsOrderOf, holds}
 use Rattle.uac_graph.specs.declared.orders.Order.{Order}
 use Rattle.uac_graph.proofs.Apart.{apart_more}
 use Rattle.uac_graph.proofs.Lookups.{id_at}
@@ -43,7 +43,7 @@ or_last false false true = refl
 or_last false false false = refl
 
 -- the sources of an entity that is held are held
-sources_held : (entities : List Entity) (places : List ℕ) (id k : ℕ) → IsSignalGraph entities → IsOrder entities places → holds entities places id ≡ true
+sources_held : (entities : List Entity) (places : List ℕ) (id k : ℕ) → IsSignalGraph entities → IsRenderOrder entities places → holds entities places id ≡ true
     → k < length (signal_sources (entity entities id)) → holds entities places (get_or (signal_sources (entity entities id)) k 0) ≡ true
 sources_held entities places id k sound order held below =
     let found = any_at (λ place. eqb (at entities place).id id) places held in
@@ -56,7 +56,7 @@ sources_held entities places id k sound order held below =
     (λ i inside. order.following j found.1 i 0 inside) k below)
 
 -- and so is all that it reaches
-closed : (entities : List Entity) (places : List ℕ) (n id k : ℕ) → IsSignalGraph entities → IsOrder entities places → holds entities places id ≡ true
+closed : (entities : List Entity) (places : List ℕ) (n id k : ℕ) → IsSignalGraph entities → IsRenderOrder entities places → holds entities places id ≡ true
     → reaches entities n id k ≡ true → holds entities places k ≡ true
 unfolding reaches
 closed entities places zero id k sound order held reached = subst (λ (i : ℕ). holds entities places i ≡ true) (eqb-true id k reached) held
@@ -73,7 +73,7 @@ closed entities places (suc n) id k sound order held reached =
 
 -- where the entity's place is there, so is all that it reaches
 pub held_already : (entities : List Entity) (places slice : List ℕ) (links id place : ℕ) → IsSignalGraph entities → is_clock (entity entities id).kind ≡ false
-    → IsOrder entities places → place ≡ place_of entities id → slice ≡ places → list_any (λ p. p == place) slice ≡ true
+    → IsRenderOrder entities places → place ≡ place_of entities id → slice ≡ places → list_any (λ p. p == place) slice ≡ true
     → (k : ℕ) → holds entities places k ≡ (holds entities places k || reaches entities links id k)
 held_already entities places slice links id place sound signal order where_it_is same there k =
     let found = any_at (λ p. eqb p place) places (subst (λ (xs : List ℕ). list_any (λ p. eqb p place) xs ≡ true) same there) in
@@ -120,12 +120,12 @@ held_itself entities links id place old mid new signal some where_it_is pushed b
 
 -- the entity stands after its sources
 pub order_more : (entities : List Entity) (links id place : ℕ) (old mid new : List ℕ) → IsSignalGraph entities → is_clock (entity entities id).kind ≡ false
-    → place ≡ place_of entities id → new ≡ mid ++ place ∷ [] → holds entities mid id ≡ false → IsOrder entities mid
+    → place ≡ place_of entities id → new ≡ mid ++ place ∷ [] → holds entities mid id ≡ false → IsRenderOrder entities mid
     → ((k : ℕ) → holds entities mid k ≡ (holds entities old k || list_any (λ s. reaches entities links s k) (signal_sources (entity entities id))))
-    → IsOrder entities new
+    → IsRenderOrder entities new
 unfolding entity
 order_more entities links id place old mid new sound signal where_it_is pushed absent order before =
-    subst (IsOrder entities) (sym pushed)
+    subst (IsRenderOrder entities) (sym pushed)
     (record {
       inside = All-push (λ p. p < length entities) mid place order.inside (subst (λ (p : ℕ). p < length entities) (sym where_it_is) (signal_below entities id signal));
       signal =
@@ -156,9 +156,9 @@ order_more entities links id place old mid new sound signal where_it_is pushed a
         (list_any_at (λ t. reaches entities links t s) sources k d below (reaches_self entities links s))
 
 -- no places
-pub order_none : (entities : List Entity) (places : List ℕ) → places ≡ [] → IsOrder entities places
+pub order_none : (entities : List Entity) (places : List ℕ) → places ≡ [] → IsRenderOrder entities places
 order_none entities places none =
-    subst (IsOrder entities) (sym none)
+    subst (IsRenderOrder entities) (sym none)
     (record {
       inside = λ k d below. absurd (omega arith);
       signal = λ k d below. absurd (omega arith);
@@ -193,7 +193,7 @@ ends_same entities slice domain i e places same below item other before k =
     ∙ sym (tested_more entities slice domain i k e same below item)
 
 -- all output terminals
-pub ends_all : (entities slice : List Entity) (domain i : ℕ) (places : List ℕ) → slice ≡ entities → length slice ≤ i → IsOrder entities places
+pub ends_all : (entities slice : List Entity) (domain i : ℕ) (places : List ℕ) → slice ≡ entities → length slice ≤ i → IsRenderOrder entities places
     → ((k : ℕ) → holds entities places k ≡ list_any (λ f. is_end domain f && reaches entities (length entities) f.id k) (take i slice))
     → IsOrderOf entities domain places
 unfolding depends_on

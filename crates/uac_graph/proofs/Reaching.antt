@@ -20,7 +20,7 @@ use Rattle.uac_graph.specs.Jobs.{FitsFrames, takes_signal}
 use Rattle.uac_graph.specs.Meaning.{entity, frame_of, sample_of}
 use Rattle.uac_graph.specs.Needs.{reaches}
 use Rattle.uac_graph.specs.Wiring.{AreWiresOf, Frames, frame_on, samples_on}
-use Rattle.uac_topology_rules.proofs.Channels.{channels_placed}
+use Rattle.uac_topology_rules.proofs.TableLemmas.{channels_placed}
 use Rattle.uac_topology_rules.proofs.KnownSteps.{map_same}
 use Rattle.uac_graph.proofs.Links.{source_ends}
 use Rattle.uac_graph.proofs.Walking.{signal_below, signal_channels, signal_sources_of}

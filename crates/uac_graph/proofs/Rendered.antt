@@ -10,12 +10,12 @@ use Rattle.std.specs.Prelude.{negsuc}
 use Rattle.uac_entities.specs.declared.entity.Entity.{Entity}
 use Rattle.uac_entities.specs.declared.entity.EntityKind.{EntityKind}
 use Rattle.uac_entities.specs.declared.entity.EntityKind.TheVariants as kind
-use Rattle.uac_gain.specs.Gain.{scaled, saturated}
+use Rattle.uac_gain.specs.Gain.{scaled_sample, nearest_in_32_bits}
 use Rattle.uac_units.specs.declared.jobs.Job.{Job}
 use Rattle.uac_units.specs.declared.jobs.UnitKind.{UnitKind}
 use Rattle.uac_units.specs.declared.jobs.UnitKind.TheVariants as unit
 use Rattle.uac_units.specs.Rendering.{FitsKind, FitsNumbers, in_a_row, input, pins_sample, job_samples}
-use Rattle.uac_units.proofs.Samples.{selector-in_a_row, feature-in_a_row, effect-in_a_row}
+use Rattle.uac_units.proofs.RenderingLemmas.{selector-in_a_row, feature-in_a_row, effect-in_a_row}
 use Rattle.uac_graph.specs.GraphControls.{Controls, chosen_pin, control_value, feature_gain, node_gain, pin_of}
 use Rattle.uac_graph.specs.Jobs.{FitsFrames, HasJob, IsJob, gain_at, gain_count, unit_of}
 use Rattle.uac_graph.specs.Meaning.{frame_of, sample_of}
@@ -46,14 +46,14 @@ mixer_sample : (controls : Controls) (id channels : ℕ) (frames : List (List �
     → IsJob controls id unit.Mixer channels (length frames) (length (in_a_row frames)) job → (channel : ℕ) → channel < channels
     → pins_sample unit.Mixer job (in_a_row frames) channel ≡ sample_of controls id kind.Mixer channels frames channel
 mixer_sample controls id channels frames job is channel below =
-    ap (λ (inputs : List ℤ). saturated (fold (λ sum sample. sum +ℤ sample) (pos 0) inputs))
+    ap (λ (inputs : List ℤ). nearest_in_32_bits (fold (λ sum sample. sum +ℤ sample) (pos 0) inputs))
     (range_same
-    (λ at. scaled (input (in_a_row frames) at) (get_or job.gains.items (at * job.outputs + channel) 0))
-    (λ at. scaled (input (in_a_row frames) at) (node_gain controls id (at * channels + channel)))
+    (λ at. scaled_sample (input (in_a_row frames) at) (get_or job.gains.items (at * job.outputs + channel) 0))
+    (λ at. scaled_sample (input (in_a_row frames) at) (node_gain controls id (at * channels + channel)))
     (length (in_a_row frames))
     (λ at inside.
-    ap (λ (outputs : ℕ). scaled (input (in_a_row frames) at) (get_or job.gains.items (at * outputs + channel) 0)) is.outputs
-    ∙ ap (scaled (input (in_a_row frames) at))
+    ap (λ (outputs : ℕ). scaled_sample (input (in_a_row frames) at) (get_or job.gains.items (at * outputs + channel) 0)) is.outputs
+    ∙ ap (scaled_sample (input (in_a_row frames) at))
     (gain_of_job controls id unit.Mixer channels (length frames) (length (in_a_row frames)) (at * channels + channel) job is
     (node_below at channel (length (in_a_row frames)) channels inside below))))
 
@@ -102,8 +102,8 @@ feature_sample controls id channels frames job is fits channel below =
     gain_of_job controls id unit.Feature channels (length frames) (length (in_a_row frames)) (2 * channel + 1) job is (omega arith)
     ∙ ap (feature_gain controls id) (odd channel) in
     feature-in_a_row job frames channel (omega (arith, one_frame frames channels fits.pins))
-    ∙ ap (λ (g : ℕ). scaled (scaled sample g) (get_or job.gains.items (2 * channel + 1) 0)) own
-    ∙ ap (λ (g : ℕ). scaled (scaled sample (feature_gain controls id (channel + 1))) g) master
+    ∙ ap (λ (g : ℕ). scaled_sample (scaled_sample sample g) (get_or job.gains.items (2 * channel + 1) 0)) own
+    ∙ ap (λ (g : ℕ). scaled_sample (scaled_sample sample (feature_gain controls id (channel + 1))) g) master
   where
     even : (n : ℕ) → (if eqb (2 * n % 2) 0 then 2 * n / 2 + 1 else 0) ≡ n + 1
     even n = ap (λ (b : Bool). if b then 2 * n / 2 + 1 else 0) (eq-eqb (2 * n % 2) 0 (omega arith)) ∙ omega arith

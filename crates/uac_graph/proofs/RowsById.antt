@@ -6,7 +6,7 @@ use Rattle.std.proofs.lemmas.List.{get_or_default, get_or-set_same, get_or-set_o
 use Rattle.std.proofs.lemmas.List.{set-append_left, set-append_right}
 use Rattle.std.proofs.Math.ListN.{get_or-append}
 use Rattle.std.proofs.Math.Seq.{get_or-append_right}
-use Rattle.uac_graph.specs.FrameRows.{frames_in, row_frames, place_after_passing}
+use Rattle.uac_graph.specs.FrameRows.{numbered_frames, row_frames, slot_after_passing}
 use Rattle.uac_graph.specs.Wiring.{frame_on, samples_on}
 use Rattle.uac_graph.proofs.Rows.{no_samples}
 
@@ -30,7 +30,7 @@ numbered_at (Some frame ∷ row) n (suc k) =
     ap (λ (b : Bool). cond b (Some frame) (frame_on (row_frames (suc n) row) (n + suc k))) (ne_eqb (n + suc k) n (λ e. omega arith))
     ∙ ap (frame_on (row_frames (suc n) row)) (omega arith) ∙ numbered_at row (suc n) k
 
-pub frame_at : (row : List (Option (List ℤ))) (id : ℕ) → frame_on (frames_in row) id ≡ get_or row id None
+pub frame_at : (row : List (Option (List ℤ))) (id : ℕ) → frame_on (numbered_frames row) id ≡ get_or row id None
 frame_at row id = ap (frame_on (row_frames 0 row)) (omega arith) ∙ numbered_at row 0 id
 
 -- a row of frames of whatever kind, as they are read
@@ -40,41 +40,41 @@ module _ {X : Type 0} (read : X → List ℤ) where
   get_or_seen (o ∷ row) zero = refl
   get_or_seen (o ∷ row) (suc id) = get_or_seen row id
 
-  pub frame_seen : (row : List (Option X)) (id : ℕ) → frame_on (frames_in (map (option_map read) row)) id ≡ option_map read (get_or row id None)
+  pub frame_seen : (row : List (Option X)) (id : ℕ) → frame_on (numbered_frames (map (option_map read) row)) id ≡ option_map read (get_or row id None)
   frame_seen row id = frame_at (map (option_map read) row) id ∙ get_or_seen row id
 
   -- one place written
   pub place_written : (row new : List (Option X)) (key : ℕ) (place : Option X) → key < length row → new ≡ set row key place
-      → (id : ℕ) → frame_on (frames_in (map (option_map read) new)) id
-      ≡ (if eqb key id then option_map read place else frame_on (frames_in (map (option_map read) row)) id)
+      → (id : ℕ) → frame_on (numbered_frames (map (option_map read) new)) id
+      ≡ (if eqb key id then option_map read place else frame_on (numbered_frames (map (option_map read) row)) id)
   place_written row new key place below is id =
       frame_seen new id ∙ ap (λ (r : List (Option X)). option_map read (get_or r id None)) is
       ∙ elim (cases_eq key id) [
         | inl same ↦
             ap (λ (n : ℕ). option_map read (get_or (set row key place) n None)) (sym same)
             ∙ ap (option_map read) (get_or-set_same row key place None below)
-            ∙ sym (ap (λ (b : Bool). if b then option_map read place else frame_on (frames_in (map (option_map read) row)) id) (eq-eqb key id same))
+            ∙ sym (ap (λ (b : Bool). if b then option_map read place else frame_on (numbered_frames (map (option_map read) row)) id) (eq-eqb key id same))
         | inr other ↦
             ap (option_map read) (get_or-set_other row key id place None (λ e. other (sym e)))
             ∙ sym (frame_seen row id)
-            ∙ sym (ap (λ (b : Bool). if b then option_map read place else frame_on (frames_in (map (option_map read) row)) id) (ne_eqb key id other))
+            ∙ sym (ap (λ (b : Bool). if b then option_map read place else frame_on (numbered_frames (map (option_map read) row)) id) (ne_eqb key id other))
       ]
 
   -- one frame written
   pub frame_written : (row new : List (Option X)) (key : ℕ) (value : X) → key < length row → new ≡ set row key (Some value)
-      → (id : ℕ) → frame_on (frames_in (map (option_map read) new)) id
-      ≡ (if eqb key id then Some (read value) else frame_on (frames_in (map (option_map read) row)) id)
+      → (id : ℕ) → frame_on (numbered_frames (map (option_map read) new)) id
+      ≡ (if eqb key id then Some (read value) else frame_on (numbered_frames (map (option_map read) row)) id)
   frame_written row new key value below is id = place_written row new key (Some value) below is id
 
   -- an id at whose place no frame stands has no wire
   pub none_there : (row : List (Option X)) (id count : ℕ) → get_or row id None ≡ None
-      → option_map length (frame_on (frames_in (map (option_map read) row)) id) ≡ Some count → ⊥
+      → option_map length (frame_on (numbered_frames (map (option_map read) row)) id) ≡ Some count → ⊥
   none_there row id count absent wire =
-      let none : option_map length (frame_on (frames_in (map (option_map read) row)) id) ≡ None =
+      let none : option_map length (frame_on (numbered_frames (map (option_map read) row)) id) ≡ None =
       ap (option_map length) (frame_seen row id ∙ ap (option_map read) absent) in cc
 
 -- no frames
-pub frames_none : {X : Type 0} (read : X → List ℤ) (n id : ℕ) → frame_on (frames_in (map (option_map read) (replicate n None))) id ≡ None
+pub frames_none : {X : Type 0} (read : X → List ℤ) (n id : ℕ) → frame_on (numbered_frames (map (option_map read) (replicate n None))) id ≡ None
 frames_none read n id = frame_seen read (replicate n None) id ∙ along n id
   where
     along : (n id : ℕ) → option_map read (get_or (replicate n None) id None) ≡ None
@@ -89,8 +89,8 @@ stands_at row id o count sized below is = get_or_default row id None o (omega (a
 
 -- a frame passed on to a later place, in the parts of a row, whatever stands in for what isn't there
 pub passed_back : {X : Type 0} (row front back : List (Option X)) (from to : ℕ) (c d place : Option X) → row ≡ front ++ back → length front ≡ to → from < to
-    → to < length row → place ≡ place_after_passing (get_or front from c) (get_or back 0 d)
-    → front ++ set back 0 place ≡ set row to (place_after_passing (get_or row from None) (get_or row to None))
+    → to < length row → place ≡ slot_after_passing (get_or front from c) (get_or back 0 d)
+    → front ++ set back 0 place ≡ set row to (slot_after_passing (get_or row from None) (get_or row to None))
 passed_back row front back from to c d place parts sized before inside is =
     let own : get_or row from None ≡ get_or front from c =
     ap (λ r. get_or r from None) parts ∙ get_or-append front back None from (omega (arith, sized, before)) ∙ get_or_default front from None c (omega (arith, sized, before)) in
@@ -100,12 +100,12 @@ passed_back row front back from to c d place parts sized before inside is =
     ap (λ (n : ℕ). front ++ set back n place) (omega arith)
     ∙ sym (set-append_right front back to to place sized (omega arith))
     ∙ ap (λ r. set r to place) (sym parts)
-    ∙ ap (set row to) (is ∙ ap (λ o. place_after_passing o (get_or back 0 d)) (sym own) ∙ ap (place_after_passing (get_or row from None)) (sym there))
+    ∙ ap (set row to) (is ∙ ap (λ o. slot_after_passing o (get_or back 0 d)) (sym own) ∙ ap (slot_after_passing (get_or row from None)) (sym there))
 
 -- or to an earlier one
 pub passed_front : {X : Type 0} (row front back : List (Option X)) (from to : ℕ) (c d place : Option X) → row ≡ front ++ back → length front ≡ from → to < from
-    → from < length row → place ≡ place_after_passing (get_or back 0 c) (get_or front to d)
-    → set front to place ++ back ≡ set row to (place_after_passing (get_or row from None) (get_or row to None))
+    → from < length row → place ≡ slot_after_passing (get_or back 0 c) (get_or front to d)
+    → set front to place ++ back ≡ set row to (slot_after_passing (get_or row from None) (get_or row to None))
 passed_front row front back from to c d place parts sized before inside is =
     let own : get_or row from None ≡ get_or back 0 c =
     ap (λ r. get_or r from None) parts ∙ get_or-append_right front back from None (omega (arith, sized)) ∙ ap (λ n. get_or back n None) (omega (arith, sized))
@@ -114,24 +114,24 @@ passed_front row front back from to c d place parts sized before inside is =
     ap (λ r. get_or r to None) parts ∙ get_or-append front back None to (omega (arith, sized, before)) ∙ get_or_default front to None d (omega (arith, sized, before)) in
     sym (set-append_left front back to place (omega (arith, sized, before)))
     ∙ ap (λ r. set r to place) (sym parts)
-    ∙ ap (set row to) (is ∙ ap (λ o. place_after_passing o (get_or front to d)) (sym own) ∙ ap (place_after_passing (get_or row from None)) (sym there))
+    ∙ ap (set row to) (is ∙ ap (λ o. slot_after_passing o (get_or front to d)) (sym own) ∙ ap (slot_after_passing (get_or row from None)) (sym there))
 
 -- what is read where a frame was passed on
 pub passed_seen : {X : Type 0} (read : X → List ℤ) (row new : List (Option X)) (from to : ℕ) → to < length row
-    → new ≡ set row to (place_after_passing (get_or row from None) (get_or row to None))
-    → option_map length (frame_on (frames_in (map (option_map read) row)) to) ≡ Some (length (samples_on (frames_in (map (option_map read) row)) from))
-    → (k : ℕ) → frame_on (frames_in (map (option_map read) new)) k
-    ≡ (if eqb to k then Some (samples_on (frames_in (map (option_map read) row)) from) else frame_on (frames_in (map (option_map read) row)) k)
+    → new ≡ set row to (slot_after_passing (get_or row from None) (get_or row to None))
+    → option_map length (frame_on (numbered_frames (map (option_map read) row)) to) ≡ Some (length (samples_on (numbered_frames (map (option_map read) row)) from))
+    → (k : ℕ) → frame_on (numbered_frames (map (option_map read) new)) k
+    ≡ (if eqb to k then Some (samples_on (numbered_frames (map (option_map read) row)) from) else frame_on (numbered_frames (map (option_map read) row)) k)
 passed_seen {X = X} read row new from to inside is there k =
-    let frames = frames_in (map (option_map read) row) in
-    place_written read row new to (place_after_passing (get_or row from None) (get_or row to None)) inside is k
+    let frames = numbered_frames (map (option_map read) row) in
+    place_written read row new to (slot_after_passing (get_or row from None) (get_or row to None)) inside is k
     ∙ ap (λ (o : Option (List ℤ)). if eqb to k then o else frame_on frames k)
     (by (get_or row from None) (get_or row to None)
     (ap (option_map length) (sym (frame_seen read row to)) ∙ there ∙ ap (λ o. Some (length (unwrap_or o []))) (frame_seen read row from))
     ∙ ap (λ o. Some (unwrap_or o [])) (sym (frame_seen read row from)))
   where
     by : (source held : Option X) → option_map length (option_map read held) ≡ Some (length (unwrap_or (option_map read source) []))
-        → option_map read (place_after_passing source held) ≡ Some (unwrap_or (option_map read source) [])
+        → option_map read (slot_after_passing source held) ≡ Some (unwrap_or (option_map read source) [])
     by (Some frame) (Some held) e = refl
     by (Some frame) None e = absurd (cc)
     by None (Some held) e = no_samples (Some (read held)) 0 e refl

@@ -9,7 +9,7 @@ use Rattle.uac_topology_rules.specs.Links.{signal_sources}
 use Rattle.uac_topology_rules.specs.Table.{at, place_of}
 use Rattle.uac_graph.specs.GraphControls.{Controls}
 use Rattle.uac_graph.specs.Meaning.{entity, frame_of, meaning, samples, samples_by}
-use Rattle.uac_graph.specs.Needs.{depends_on, needed, reaches}
+use Rattle.uac_graph.specs.Needs.{depends_on, needed_units, reaches}
 
 abbrev stereo : Cluster
 stereo = record { channels = 2; locations = 3; names = 0 }
@@ -102,14 +102,14 @@ unfolding graph unset set given meaning samples samples_by entity frame_of at pl
 no_such_pin = refl
 
 -- what each domain needs
-first_domain : needed graph 1 ≡ 6 ∷ []
-unfolding graph needed depends_on reaches entity at place_of signal_sources
+first_domain : needed_units graph 1 ≡ 6 ∷ []
+unfolding graph needed_units depends_on reaches entity at place_of signal_sources
 first_domain = refl
 
-second_domain : needed graph 11 ≡ 3 ∷ 8 ∷ 9 ∷ 10 ∷ []
-unfolding graph needed depends_on reaches entity at place_of signal_sources
+second_domain : needed_units graph 11 ≡ 3 ∷ 8 ∷ 9 ∷ 10 ∷ []
+unfolding graph needed_units depends_on reaches entity at place_of signal_sources
 second_domain = refl
 
-no_domain : needed graph 2 ≡ []
-unfolding graph needed depends_on reaches entity at place_of signal_sources
+no_domain : needed_units graph 2 ≡ []
+unfolding graph needed_units depends_on reaches entity at place_of signal_sources
 no_domain = refl

@@ -9,11 +9,11 @@ row_frames n (None ∷ row) = row_frames (suc n) row
 row_frames n (Some frame ∷ row) = (n, frame) ∷ row_frames (suc n) row
 
 -- the frames of a row, numbered from 0 on
-abbrev pub frames_in : List (Option (List ℤ)) → Frames
-frames_in row = row_frames 0 row
+abbrev pub numbered_frames : List (Option (List ℤ)) → Frames
+numbered_frames row = row_frames 0 row
 
 -- what stands at a place that is to have another's frame: that frame, where there is one at both
-abbrev pub place_after_passing : {X : Type 0} → Option X → Option X → Option X
-place_after_passing (Some frame) (Some held) = Some frame
-place_after_passing (Some frame) None = None
-place_after_passing None place = place
+abbrev pub slot_after_passing : {X : Type 0} → Option X → Option X → Option X
+slot_after_passing (Some frame) (Some held) = Some frame
+slot_after_passing (Some frame) None = None
+slot_after_passing None place = place

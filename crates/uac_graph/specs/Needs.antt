@@ -38,5 +38,5 @@ abbrev pub unit_count : EntityKind → ℕ
 unit_count k = if is_unit k then 1 else 0
 
 -- the ids of the units that the domain needs, in block order
-unfoldable pub needed : List Entity → ℕ → List ℕ
-needed entities domain = map (λ e. e.id) (filter (λ e. is_unit e.kind && depends_on entities domain e.id) entities)
+unfoldable pub needed_units : List Entity → ℕ → List ℕ
+needed_units entities domain = map (λ e. e.id) (filter (λ e. is_unit e.kind && depends_on entities domain e.id) entities)

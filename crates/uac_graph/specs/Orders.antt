@@ -18,7 +18,7 @@ abbrev pub holds : List Entity → List ℕ → ℕ → Bool
 holds entities places id = list_any (λ place. (at entities place).id == id) places
 
 -- places of entities that carry a signal, each once and after all of its sources
-pub record IsOrder (entities : List Entity) (places : List ℕ) : Type 0 where
+pub record IsRenderOrder (entities : List Entity) (places : List ℕ) : Type 0 where
   pub inside : All (λ place. place < length entities) places
   pub signal : All (λ place. is_clock (at entities place).kind ≡ false) places
   pub apart : (j k : ℕ) → j < k → k < length places → slice_index_or places j 0 ≡ slice_index_or places k 0 → ⊥
@@ -27,7 +27,7 @@ pub record IsOrder (entities : List Entity) (places : List ℕ) : Type 0 where
 
 -- such an order of exactly the entities on which the domain's output terminals depend, and these terminals
 pub record IsOrderOf (entities : List Entity) (domain : ℕ) (places : List ℕ) : Type 0 where
-  pub order : IsOrder entities places
+  pub order : IsRenderOrder entities places
   pub all : (id : ℕ) → holds entities places id ≡ depends_on entities domain id
 
 -- the order of its domain, and what is done at its places

@@ -5,7 +5,7 @@ ghost use Rattle.uac_entities.specs.declared.entity.Entity.{Entity};
 ghost use Rattle.std.specs.Option.{option_map};
 ghost use Rattle.uac_units.specs.Rendering.{FitsKind, job_samples};
 ghost use Rattle.uac_graph.specs.Fitness.{IsSignalGraph};
-ghost use Rattle.uac_graph.specs.FrameRows.{frames_in, place_after_passing};
+ghost use Rattle.uac_graph.specs.FrameRows.{numbered_frames, slot_after_passing};
 ghost use Rattle.uac_pcm.specs.Tones.{tone_frame};
 ghost use Rattle.uac_graph.specs.Wiring.{AreSilent, AreWiresOf, frame_on, samples_on};
 
@@ -29,12 +29,12 @@ pub struct FrameTable {
 impl Model for FrameTable {
     ghost use Rattle.std.specs.Prelude.{◌≡◌, length, map};
     ghost use Rattle.std.specs.Option.{option_map};
-    ghost use Rattle.uac_graph.specs.FrameRows.{frames_in};
+    ghost use Rattle.uac_graph.specs.FrameRows.{numbered_frames};
     ghost use Rattle.uac_graph.specs.Wiring.{Frames};
 
     ghost Value = { Frames };
 
-    ghost view = { λ t. frames_in (map (option_map (λ f. f.items)) t.row.items) };
+    ghost view = { λ t. numbered_frames (map (option_map (λ f. f.items)) t.row.items) };
 
     ghost invariant = { λ t. length t.row.items ≡ 256 };
 }
@@ -161,7 +161,7 @@ impl FrameTable {
 fn pass_in(row: &mut [Option<Frame>], from: usize, to: usize)
     requires from { from < length row.old }
     requires to { to < length row.old }
-    ensures { row.new ≡ set row.old to (place_after_passing (get_or row.old from None) (get_or row.old to None)) }
+    ensures { row.new ≡ set row.old to (slot_after_passing (get_or row.old from None) (get_or row.old to None)) }
 {
     if from < to {
         let (front, back) = row.split_at_mut(to);
@@ -174,7 +174,7 @@ fn pass_in(row: &mut [Option<Frame>], from: usize, to: usize)
 
 // Makes a frame another, where both are there.
 fn pass_frame(source: &Option<Frame>, place: &mut Option<Frame>)
-    ensures { place.new ≡ place_after_passing source.now place.old }
+    ensures { place.new ≡ slot_after_passing source.now place.old }
 {
     if let Some(frame) = source {
         if let Some(held) = place {
@@ -186,7 +186,7 @@ fn pass_frame(source: &Option<Frame>, place: &mut Option<Frame>)
 // Silence for each of these entities that isn't a clock.
 fn silent_row(alloc: Global, entities: &[Entity]) -> Result<Vec<Option<Frame>>, NoMemory>
     requires { IsSignalGraph entities.now }
-    ensures silent { IfOk result (λ row. AreSilent entities.now (frames_in (map (option_map (λ f. f.items)) row.items))) }
+    ensures silent { IfOk result (λ row. AreSilent entities.now (numbered_frames (map (option_map (λ f. f.items)) row.items))) }
     ensures sized { IfOk result (λ row. length row.items ≡ 256) }
 {
     let mut row = empty_row(alloc)?;

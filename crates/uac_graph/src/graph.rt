@@ -8,7 +8,7 @@ ghost use Rattle.uac_store.specs.StoreControls.{pins_of};
 ghost use Rattle.uac_graph.specs.GraphControls.{Controls, controls_in};
 ghost use Rattle.uac_graph.specs.Fitness.{IsSignalGraph};
 ghost use Rattle.uac_graph.specs.Jobs.{AreJobs, AreSameBut, HasJob};
-ghost use Rattle.uac_graph.specs.Needs.{depends_on, needed, unit_count};
+ghost use Rattle.uac_graph.specs.Needs.{depends_on, needed_units, unit_count};
 ghost use Rattle.uac_graph.specs.Orders.{IsKeptOrder, frame_after};
 ghost use Rattle.uac_graph.specs.Tasks.{work_of};
 ghost use Rattle.uac_graph.specs.Wiring.{AreRendered, AreWiresOf, frame_on, samples_on};
@@ -67,11 +67,11 @@ impl Graph {
     pub fn tick(&self, domain: u8, store: &Store, rack: &Rack, wires: &mut Wires, steps: &mut Steps)
         requires rack { IsFitted (λ v x. (⟦<dyn Unit as Unit>⟧ v).kind_of x) rack.now }
         requires wires { AreWiresOf self.now wires.old }
-        requires room { steps.old + length (needed self.now domain) < 2 ^ 64 }
+        requires room { steps.old + length (needed_units self.now domain) < 2 ^ 64 }
         ensures rendered { AreRendered self.now (controls_in store.now) (samples_on wires.old) (depends_on self.now domain) wires.old
             wires.new }
         ensures fitting { AreWiresOf self.now wires.new }
-        ensures once { steps.new ≡ steps.old + length (needed self.now domain) }
+        ensures once { steps.new ≡ steps.old + length (needed_units self.now domain) }
     {
         let mut job = no_job();
         for place in places_for(&self.orders, domain) {
@@ -130,11 +130,11 @@ impl Graph {
         requires rack { IsFitted (λ v x. (⟦<dyn Unit as Unit>⟧ v).kind_of x) rack.now }
         requires jobs { (controls : Controls) × AreJobs self.now controls jobs.now }
         requires wires { AreWiresOf self.now wires.old }
-        requires room { steps.old + length (needed self.now domain) < 2 ^ 64 }
+        requires room { steps.old + length (needed_units self.now domain) < 2 ^ 64 }
         ensures rendered { (controls : Controls) → AreJobs self.now controls jobs.now
             → AreRendered self.now controls (samples_on wires.old) (depends_on self.now domain) wires.old wires.new }
         ensures fitting { AreWiresOf self.now wires.new }
-        ensures once { steps.new ≡ steps.old + length (needed self.now domain) }
+        ensures once { steps.new ≡ steps.old + length (needed_units self.now domain) }
     {
         match order_for(&self.orders, domain) {
             Some(order) => self.follow(order, jobs, rack, wires, steps),
@@ -149,11 +149,11 @@ impl Graph {
         requires order { IsKeptOrder self.now order.now }
         requires jobs { (controls : Controls) × AreJobs self.now controls jobs.now }
         requires wires { AreWiresOf self.now wires.old }
-        requires room { steps.old + length (needed self.now order.now.domain) < 2 ^ 64 }
+        requires room { steps.old + length (needed_units self.now order.now.domain) < 2 ^ 64 }
         ensures rendered { (controls : Controls) → AreJobs self.now controls jobs.now
             → AreRendered self.now controls (samples_on wires.old) (depends_on self.now order.now.domain) wires.old wires.new }
         ensures fitting { AreWiresOf self.now wires.new }
-        ensures once { steps.new ≡ steps.old + length (needed self.now order.now.domain) }
+        ensures once { steps.new ≡ steps.old + length (needed_units self.now order.now.domain) }
     {
         for task in order.tasks.as_slice() {
             self.carry_out(task, jobs, rack, wires, steps);

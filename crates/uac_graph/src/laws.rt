@@ -8,7 +8,7 @@ ghost use Rattle.uac_topology_rules.specs.Rules.{is_output};
 ghost use Rattle.uac_graph.specs.GraphControls.{Controls};
 ghost use Rattle.uac_graph.specs.Fitness.{IsSignalGraph};
 ghost use Rattle.uac_graph.specs.Meaning.{entity, meaning, samples_by};
-ghost use Rattle.uac_graph.specs.Needs.{depends_on, is_end, is_unit, needed, reaches};
+ghost use Rattle.uac_graph.specs.Needs.{depends_on, is_end, is_unit, needed_units, reaches};
 ghost use Rattle.uac_topology.specs.Function.{FunctionFields};
 ghost use Rattle.uac_topology.specs.Topology.{IsSoundFunction};
 
@@ -28,13 +28,13 @@ pub fn sound_functions_have_a_graph()
 
 /// On each unit that a domain needs one of its output terminals depends, in any list of entities; in a sound one these are exactly the
 /// units on which one does, each of them once.
-#[tactic(auto, using(crate::proofs::Needed::needed_depended, crate::proofs::NeedsLemmas::needed_are, crate::proofs::NeedsLemmas::needed_apart))]
+#[tactic(auto, using(crate::proofs::NeedsLemmas::needed_depended, crate::proofs::NeedsLemmas::needed_are, crate::proofs::NeedsLemmas::needed_apart))]
 pub fn needed_units_are_depended_on()
-    ensures depended { (entities : List Entity) (domain id : ℕ) → list_any (λ n. n == id) (needed entities domain) ≡ true
+    ensures depended { (entities : List Entity) (domain id : ℕ) → list_any (λ n. n == id) (needed_units entities domain) ≡ true
         → depends_on entities domain id ≡ true }
     ensures members { (entities : List Entity) (domain id : ℕ) → IsSignalGraph entities
-        → list_any (λ n. n == id) (needed entities domain) ≡ (is_unit (entity entities id).kind && depends_on entities domain id) }
-    ensures apart { (entities : List Entity) (domain : ℕ) → IsSignalGraph entities → IsDistinct nat_eq (needed entities domain) }
+        → list_any (λ n. n == id) (needed_units entities domain) ≡ (is_unit (entity entities id).kind && depends_on entities domain id) }
+    ensures apart { (entities : List Entity) (domain : ℕ) → IsSignalGraph entities → IsDistinct nat_eq (needed_units entities domain) }
 {}
 
 /// A walk of signal source links, of any number of links, is one of those that are counted: as many links as there are entities are
@@ -56,7 +56,7 @@ pub fn output_terminals_are_ends()
 /// A domain needs no more units than its function has entities, so a fresh count has room for them.
 #[tactic(auto, using(crate::proofs::NeedsLemmas::needed_few))]
 pub fn fresh_steps_have_room(function: &Function)
-    ensures { (domain : ℕ) → length (needed function.now.entities domain) < 2 ^ 64 }
+    ensures { (domain : ℕ) → length (needed_units function.now.entities domain) < 2 ^ 64 }
 {
     let _entities = function.entities().len();
 }

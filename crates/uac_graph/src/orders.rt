@@ -8,7 +8,7 @@ ghost use Rattle.uac_topology_rules.specs.Table.{place_of};
 ghost use Rattle.uac_graph.specs.Fitness.{IsSignalGraph};
 ghost use Rattle.uac_graph.specs.Meaning.{entity};
 ghost use Rattle.uac_graph.specs.Needs.{reaches};
-ghost use Rattle.uac_graph.specs.Orders.{AreOrders, IsKeptOrder, IsOrder, IsOrderOf, holds};
+ghost use Rattle.uac_graph.specs.Orders.{AreOrders, IsKeptOrder, IsRenderOrder, IsOrderOf, holds};
 
 use crate::tasks::{Task, tasks_of};
 use crate::terminals::is_end;
@@ -81,8 +81,8 @@ fn visit(table: &EntityTable, id: u8, links: usize, places: &mut Vec<usize>) -> 
     requires sound { IsSignalGraph table.now }
     requires signal { is_clock (entity table.now id).kind ≡ false }
     requires ends { has_walk (signal_links table.now) links (place_of table.now id) ≡ false }
-    requires order { IsOrder table.now places.old.items }
-    ensures order { OnOk result (IsOrder table.now places.new.items) }
+    requires order { IsRenderOrder table.now places.old.items }
+    ensures order { OnOk result (IsRenderOrder table.now places.new.items) }
     ensures all { OnOk result ((k : ℕ)
         → holds table.now places.new.items k ≡ (holds table.now places.old.items k || reaches table.now links id k)) }
 {

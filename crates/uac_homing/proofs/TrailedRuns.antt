@@ -5,13 +5,13 @@ use Rattle.std.specs.Option.{option_and_then}
 use Rattle.uac_rate.specs.Steadiness.{latest_run}
 use Rattle.uac_rate.specs.Steadiness as steadiness
 use Rattle.uac_flow.specs.FlowStreams.{OutStream, is_due, out_level}
-use Rattle.uac_host.specs.Calls.{with_samples}
-use Rattle.uac_host.specs.Calls as calls
-use Rattle.uac_lanes.specs.InterfaceStreams.{either_due}
+use Rattle.uac_host.specs.HostCalls.{with_samples}
+use Rattle.uac_host.specs.HostCalls as calls
+use Rattle.uac_device_streams.specs.InterfaceStreams.{either_due}
 use Rattle.uac_device.specs.DeviceWorld.{Domain, fresh, is_due_in, step_in, target_of}
-use Rattle.uac_script.specs.Phrase.{SaidMark}
+use Rattle.uac_script.specs.Phrase.{PhraseMark}
 use Rattle.uac_streaming.specs.StreamingWorld.{StreamingWorld, loses_out, loses_report, packet_to}
-use Rattle.uac_running.specs.RunningWorld.{RunningWorld, at_start, streaming_of, with_detail, with_samples_on, with_tone, with_track}
+use Rattle.uac_running.specs.RunningWorld.{RunningWorld, at_start, streaming_of, with_detail, with_samples_on, with_jack_tone, with_track}
 use Rattle.uac_running.specs.Events.{microframe}
 use Rattle.uac_running.specs.RunningTransfers.{with_break}
 use Rattle.uac_bands.specs.Life.{Life, life_of}
@@ -41,7 +41,7 @@ lost_is : (b : Bool) (k : ℕ) (w : StreamingWorld) → is_lost (packet_to b k w
 lost_is true k w = refl
 lost_is false k w = refl
 
-module _ (marks : List SaidMark) (r : RunningWorld) (pasts : Pasts) (band : RunInBand r)
+module _ (marks : List PhraseMark) (r : RunningWorld) (pasts : Pasts) (band : RunInBand r)
     (steady : steadiness.is_steady (microframe marks r).world.history ≡ true) (trails : HaveTrails r pasts) where
   abbrev after : RunningWorld
   after = (microframe marks r).world
@@ -138,7 +138,7 @@ microframes_stay_trailed marks r pasts band steady trails = record {
 -- ---- what else is asked of a run
 
 pub calls_stay_trailed : CallsStayTrailed
-unfolding life_of with_tone with_detail with_break with_samples_on with_samples with_track calls.with_tone
+unfolding life_of with_jack_tone with_detail with_break with_samples_on with_samples with_track calls.with_track_tone
 calls_stay_trailed r pasts trails = record {
   tone = λ terminal tone k l target life is. trails k l target life is;
   detail = λ level k l target life is. trails k l target life is;

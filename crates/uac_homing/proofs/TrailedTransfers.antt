@@ -9,10 +9,10 @@ use Rattle.uac_alt.specs.declared.settings.InterfaceSetting.{InterfaceSetting}
 use Rattle.uac_request.specs.declared.setup.Setup.{Setup}
 use Rattle.uac_flow.specs.FlowStreams.{InStream, OutStream, started_out}
 use Rattle.uac_host.specs.HostWorld.{Pace}
-use Rattle.uac_host.specs.Calls.{at_interface, fresh_pace, with_stream}
-use Rattle.uac_lanes.specs.InterfaceStreams.{in_from, out_from, replaced_at}
+use Rattle.uac_host.specs.HostCalls.{at_interface, fresh_pace, with_stream}
+use Rattle.uac_device_streams.specs.InterfaceStreams.{in_from, out_from, replaced_at}
 use Rattle.uac_device.specs.DeviceWorld.{Domain, after_restart}
-use Rattle.uac_streaming.specs.StreamingWorld.{place_of}
+use Rattle.uac_streaming.specs.StreamingWorld.{stream_index}
 use Rattle.uac_running.specs.RunningWorld.{RunningWorld}
 use Rattle.uac_running.specs.RunningTransfers.{after_transfer}
 use Rattle.uac_bands.specs.Life.{Life, domain_on, life_of}
@@ -41,13 +41,13 @@ module _ (r other : RunningWorld) (cs : List (Key × ℤ)) (ss : List InterfaceS
 
   -- an interface whose stream, pace and reports are the same
   same_life : (k : ℕ) → outs k ≡ r.device.outs k → paces k ≡ r.host.paces k
-      → ((place : ℕ) → place_of r.device.function k ≡ Some place → given.feedback place ≡ r.history.feedback place)
+      → ((place : ℕ) → stream_index r.device.function k ≡ Some place → given.feedback place ≡ r.history.feedback place)
       → life_of changed k ≡ life_of r k
   unfolding life_of
   same_life k out pace reports =
-      ap (λ (o : Option OutStream). life o (paces k) (domain_on r k) (place_of r.device.function k) given) out
-      ∙ ap (λ (q : Option Pace). life (r.device.outs k) q (domain_on r k) (place_of r.device.function k) given) pace
-      ∙ by (r.device.outs k) (r.host.paces k) (domain_on r k) (place_of r.device.function k) reports
+      ap (λ (o : Option OutStream). life o (paces k) (domain_on r k) (stream_index r.device.function k) given) out
+      ∙ ap (λ (q : Option Pace). life (r.device.outs k) q (domain_on r k) (stream_index r.device.function k) given) pace
+      ∙ by (r.device.outs k) (r.host.paces k) (domain_on r k) (stream_index r.device.function k) reports
     where
       life : Option OutStream → Option Pace → Option Domain → Option ℕ → SteadyHistory → Option Life
       life o q e j all =

@@ -2,14 +2,14 @@
 use Rattle.std.proofs.Common.{arith, ◌≡◌, ◌∙◌, sym, refl, ap, subst, ℕ, ◌+◌, ◌-◌, ◌*◌, ◌%◌, ◌<◌, ◌≤◌, ◌⊎◌, inl, inr, ◌&&◌, Bool, true, false, List, [], ◌∷◌, ◌++◌, length, Option, Some, None}
 use Rattle.std.proofs.lemmas.Bool.{cases_lt}
 use Rattle.uac_clock.specs.declared.values.Nominal.{Nominal}
-use Rattle.uac_clock.specs.Nominal.{HasRoom}
+use Rattle.uac_clock.specs.Nominal.{StaysBetweenWholes}
 use Rattle.uac_clock.proofs.NominalLemmas.{has_room}
 use Rattle.uac_rate.specs.Levels.{HasBand, IsRobust, Point, Within}
 use Rattle.uac_rate.specs.Steadiness.{latest_run}
 use Rattle.uac_rate.proofs.LevelsLemmas.{rates_band, tight_within}
 use Rattle.uac_settle.specs.Settling.{Ends, IsIntervalEnd, settle_of}
-use Rattle.uac_settle.proofs.Stretches.{stretch_settles}
-use Rattle.uac_settle.proofs.TurnsGoOn.{ends_by_count}
+use Rattle.uac_settle.proofs.SettlingStretchLemmas.{stretch_settles}
+use Rattle.uac_settle.proofs.SettlingTurnLemmas.{ends_by_count}
 use Rattle.uac_flow.specs.FlowStreams.{OutStream, is_due, out_level, priming_level}
 use Rattle.uac_bands.specs.Life.{Life, life_after, with_feedback}
 use Rattle.uac_bands.specs.Bands.{InBand, IsAt, IsFollowing, IsFilling, IsSlightStep, IsSteadyMicroframe, microframes_since_due}
@@ -97,7 +97,7 @@ module _ (l : Life) (packet : Option (List ℕ)) (step : ℕ) (band : InBand l) 
   abbrev after : Life
   after = life_after packet step report_lost l
 
-  room : HasRoom values
+  room : StaysBetweenWholes values
   room = has_room values band.nominal
 
   facts : HasBand values 65
@@ -250,7 +250,7 @@ trail_home l target past band t ended = record {
     values : Nominal
     values = l.out.stream.nominal
 
-    room : HasRoom values
+    room : StaysBetweenWholes values
     room = has_room values band.nominal
 
     facts : HasBand values 65

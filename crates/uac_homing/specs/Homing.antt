@@ -10,9 +10,9 @@ use Rattle.uac_units.specs.Hearing.{Reading}
 use Rattle.uac_topology.specs.Function.{FunctionFields}
 use Rattle.uac_request.specs.declared.setup.Setup.{Setup}
 use Rattle.uac_flow.specs.FlowStreams.{OutStream}
-use Rattle.uac_script.specs.Phrase.{SaidMark}
+use Rattle.uac_script.specs.Phrase.{PhraseMark}
 use Rattle.uac_transcript.specs.Transcript.{Said, says_level}
-use Rattle.uac_running.specs.RunningWorld.{RunningWorld, at_start, with_detail, with_deviation, with_samples_on, with_tone, with_track}
+use Rattle.uac_running.specs.RunningWorld.{RunningWorld, at_start, with_detail, with_deviation, with_samples_on, with_jack_tone, with_track}
 use Rattle.uac_running.specs.Events.{microframe}
 use Rattle.uac_running.specs.RunningTransfers.{after_transfer, with_break}
 use Rattle.uac_bands.specs.Life.{Life, life_of}
@@ -63,18 +63,18 @@ RunsStartTrailed =
     → HaveTrails (at_start descriptor function meters) pasts
 
 -- a microframe of a run in its bands that is steady after it leaves it so, and each level that it tells is close
-pub record StaysTrailed (marks : List SaidMark) (r : RunningWorld) (pasts : Pasts) : Type 0 where
+pub record StaysTrailed (marks : List PhraseMark) (r : RunningWorld) (pasts : Pasts) : Type 0 where
   pub stays : HaveTrails (microframe marks r).world (pasts_after marks r pasts)
   pub close : All (IsClose (microframe marks r).world (pasts_after marks r pasts)) (microframe marks r).lines
 
 abbrev pub MicroframesStayTrailed : Type 0
 MicroframesStayTrailed =
-    (marks : List SaidMark) (r : RunningWorld) (pasts : Pasts) → RunInBand r
+    (marks : List PhraseMark) (r : RunningWorld) (pasts : Pasts) → RunInBand r
     → steadiness.is_steady (microframe marks r).world.history ≡ true → HaveTrails r pasts → StaysTrailed marks r pasts
 
 -- what else is asked of a run leaves it so
 pub record StaysTrailedBetween (r : RunningWorld) (pasts : Pasts) : Type 0 where
-  pub tone : (terminal : ℕ) (tone : Tone) → HaveTrails (with_tone terminal tone r) pasts
+  pub tone : (terminal : ℕ) (tone : Tone) → HaveTrails (with_jack_tone terminal tone r) pasts
   pub detail : (level : ℕ) → HaveTrails (with_detail level r) pasts
   pub breaks : (after : Bool) → HaveTrails (with_break after r) pasts
   pub samples : (interface : ℕ) (samples : List ℤ) → HaveTrails (with_samples_on interface samples r) pasts

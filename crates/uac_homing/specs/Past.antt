@@ -1,7 +1,7 @@
 -- How long ago a stream to the device was primed, and how long ago it lost a packet (profile).
 use Rattle.std.specs.Prelude.{ℕ, ◌+◌, ◌&&◌, Bool, if◌then◌else◌, List, Option, Some, None}
 use Rattle.uac_device.specs.DeviceWorld.{is_due_in, target_of}
-use Rattle.uac_script.specs.Phrase.{SaidMark}
+use Rattle.uac_script.specs.Phrase.{PhraseMark}
 use Rattle.uac_streaming.specs.StreamingWorld.{loses_out}
 use Rattle.uac_running.specs.RunningWorld.{RunningWorld}
 
@@ -32,6 +32,6 @@ abbrev pub no_pasts : Pasts
 no_pasts interface = no_past
 
 -- after a microframe with these losses
-unfoldable pub pasts_after : List SaidMark → RunningWorld → Pasts → Pasts
+unfoldable pub pasts_after : List PhraseMark → RunningWorld → Pasts → Pasts
 pasts_after marks r pasts interface =
     past_after_packet (is_due_in r.device interface && loses_out marks interface) (target_of r.device interface) (pasts interface)

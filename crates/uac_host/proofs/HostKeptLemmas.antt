@@ -12,13 +12,13 @@ use Rattle.uac_pcm.proofs.PacketsLemmas.{take_front, drop_front}
 use Rattle.uac_topology_rules.proofs.Found.{position_none}
 use Rattle.uac_rate.proofs.PacketSizesLemmas.{by_remainder}
 use Rattle.uac_rate.specs.PacketSizes.{frames_in_packet}
-use Rattle.uac_host.specs.declared.lanes.HostStream.{HostStream}
+use Rattle.uac_host.specs.declared.host_streams.HostStream.{HostStream}
 use Rattle.uac_host.specs.HostWorld.{Pace, Track}
 use Rattle.uac_host.specs.HostFields.{TrackFields}
 use Rattle.uac_pcm.specs.Tones.{tone_frame}
-use Rattle.uac_host.specs.Calls.{after_frames, next_frames, next_size, used_next}
-use Rattle.uac_host.specs.HostKept.{kept_track, lane_on}
-use Rattle.uac_host.proofs.CallsLemmas.{tone_frame_again}
+use Rattle.uac_host.specs.HostCalls.{track_after_frames, next_frames, next_size, used_next}
+use Rattle.uac_host.specs.HostKept.{kept_track, stream_on}
+use Rattle.uac_host.proofs.HostCallsLemmas.{tone_frame_again}
 
 -- the samples of frames
 abbrev pub flat : List (List ℤ) → List ℤ
@@ -29,12 +29,12 @@ flat frames = flat_map (λ frame. frame) frames
 -- a frame waits
 pub front_waits : (channels : ℕ) (t : Track) → 1 ≤ channels → All (λ frame. length frame ≡ channels) t.waiting → channels ≤ length (flat t.waiting)
     → (next_frames channels 1 t ≡ take channels (flat t.waiting) ∷ [])
-    × (kept_track (after_frames 1 t) ≡ record { samples = drop channels (flat t.waiting); tone = t.tone; place = t.place % 4294967296 })
-unfolding next_frames after_frames
+    × (kept_track (track_after_frames 1 t) ≡ record { samples = drop channels (flat t.waiting); tone = t.tone; place = t.place % 4294967296 })
+unfolding next_frames track_after_frames
 front_waits channels t some even long = along t.waiting even long where
   along : (w : List (List ℤ)) → All (λ frame. length frame ≡ channels) w → channels ≤ length (flat w)
       → (next_frames channels 1 (record { waiting = w; tone = t.tone; place = t.place }) ≡ take channels (flat w) ∷ [])
-      × (kept_track (after_frames 1 (record { waiting = w; tone = t.tone; place = t.place })) ≡ record { samples = drop channels (flat w); tone = t.tone; place = t.place % 4294967296 })
+      × (kept_track (track_after_frames 1 (record { waiting = w; tone = t.tone; place = t.place })) ≡ record { samples = drop channels (flat w); tone = t.tone; place = t.place % 4294967296 })
   along [] even long = absurd (omega arith)
   along (f ∷ fs) even long =
       let first : length f ≡ channels = even 0 f (omega arith) in
@@ -47,12 +47,12 @@ front_waits channels t some even long = along t.waiting even long where
 -- none waits
 pub tone_sounds : (channels : ℕ) (t : Track) → All (λ frame. length frame ≡ channels) t.waiting → length (flat t.waiting) < channels
     → (next_frames channels 1 t ≡ tone_frame channels t.tone (t.place % 4294967296) ∷ [])
-    × (kept_track (after_frames 1 t) ≡ record { samples = flat t.waiting; tone = t.tone; place = (t.place % 4294967296 + 1) % 4294967296 })
-unfolding next_frames after_frames
+    × (kept_track (track_after_frames 1 t) ≡ record { samples = flat t.waiting; tone = t.tone; place = (t.place % 4294967296 + 1) % 4294967296 })
+unfolding next_frames track_after_frames
 tone_sounds channels t even short = along t.waiting even short where
   along : (w : List (List ℤ)) → All (λ frame. length frame ≡ channels) w → length (flat w) < channels
       → (next_frames channels 1 (record { waiting = w; tone = t.tone; place = t.place }) ≡ tone_frame channels t.tone (t.place % 4294967296) ∷ [])
-      × (kept_track (after_frames 1 (record { waiting = w; tone = t.tone; place = t.place })) ≡ record { samples = flat w; tone = t.tone; place = (t.place % 4294967296 + 1) % 4294967296 })
+      × (kept_track (track_after_frames 1 (record { waiting = w; tone = t.tone; place = t.place })) ≡ record { samples = flat w; tone = t.tone; place = (t.place % 4294967296 + 1) % 4294967296 })
   along [] even short =
       let place : (t.place + 1) % 4294967296 ≡ (t.place % 4294967296 + 1) % 4294967296 = omega arith in (
         ap (λ (frame : List ℤ). frame ∷ []) (sym (tone_frame_again channels t.tone t.place)),
@@ -65,7 +65,7 @@ tone_sounds channels t even short = along t.waiting even short where
 -- the same by what a track holds
 pub next_waits : (channels count : ℕ) (t : Track) (fields : TrackFields) (samples rest : List ℤ) → 1 ≤ channels → All (λ frame. length frame ≡ channels) t.waiting
     → fields ≡ kept_track t → count ≡ channels → count ≤ length fields.samples → samples ≡ take count fields.samples → rest ≡ drop count fields.samples
-    → (next_frames channels 1 t ≡ samples ∷ []) × (record { samples = rest; tone = fields.tone; place = fields.place } ≡ kept_track (after_frames 1 t))
+    → (next_frames channels 1 t ≡ samples ∷ []) × (record { samples = rest; tone = fields.tone; place = fields.place } ≡ kept_track (track_after_frames 1 t))
 next_waits channels count t fields samples rest some even kept same long taken left =
     let flatly : fields.samples ≡ flat t.waiting = ap (λ (f : TrackFields). f.samples) kept in
     let enough : channels ≤ length (flat t.waiting) = omega (arith, ap length flatly) in
@@ -80,7 +80,7 @@ next_waits channels count t fields samples rest some even kept same long taken l
 
 pub next_sounds : (channels count : ℕ) (t : Track) (fields : TrackFields) (samples : List ℤ) → All (λ frame. length frame ≡ channels) t.waiting
     → fields ≡ kept_track t → count ≡ channels → length fields.samples < count → samples ≡ tone_frame count fields.tone fields.place
-    → (next_frames channels 1 t ≡ samples ∷ []) × (record { samples = fields.samples; tone = fields.tone; place = (fields.place + 1) % 4294967296 } ≡ kept_track (after_frames 1 t))
+    → (next_frames channels 1 t ≡ samples ∷ []) × (record { samples = fields.samples; tone = fields.tone; place = (fields.place + 1) % 4294967296 } ≡ kept_track (track_after_frames 1 t))
 next_sounds channels count t fields samples even kept same short sounds =
     let flatly : fields.samples ≡ flat t.waiting = ap (λ (f : TrackFields). f.samples) kept in
     let few : length (flat t.waiting) < channels = omega (arith, ap length flatly) in
@@ -92,8 +92,8 @@ next_sounds channels count t fields samples even kept same short sounds =
     )
 
 -- frames that are left have as many samples
-pub even_after : (channels n : ℕ) (t : Track) → All (λ frame. length frame ≡ channels) t.waiting → All (λ frame. length frame ≡ channels) (after_frames n t).waiting
-unfolding after_frames
+pub even_after : (channels n : ℕ) (t : Track) → All (λ frame. length frame ≡ channels) t.waiting → All (λ frame. length frame ≡ channels) (track_after_frames n t).waiting
+unfolding track_after_frames
 even_after channels n t even = All-drop (λ frame. length frame ≡ channels) n t.waiting even
 
 -- ---- the next packet of a stream
@@ -113,7 +113,7 @@ remainder_kept p =
     let by = by_remainder p.used (replicate p.stream.service p.value) in
     ap (λ (n : ℕ). (sum p.used % 65536 + n) % 65536) (sym (same_values p)) ∙ sym by.1
 
--- ---- lanes
+-- ---- host streams
 
 pub eq_of : (m n : ℕ) → (m == n) ≡ true → m ≡ n
 eq_of m n e = grind arith
@@ -123,36 +123,36 @@ first_place host interface place d is =
     let at = position-Some (λ (l : HostStream). l.interface == interface) host place d is in
     position_or_len_is (λ (l : HostStream). l.interface == interface) host place d (omega (arith, at.0)) at.2 (λ inside. at.1)
 
--- the lane that was found is that of its interface
-pub lane_found : (host : List HostStream) (interface place : ℕ) (d : HostStream) → position (λ l. l.interface == interface) host ≡ Some place
-    → (lane_on host interface ≡ Some (get_or host place d)) × ((get_or host place d).interface ≡ interface)
-lane_found host interface place d is =
+-- the host stream that was found is that of its interface
+pub host_stream_found : (host : List HostStream) (interface place : ℕ) (d : HostStream) → position (λ l. l.interface == interface) host ≡ Some place
+    → (stream_on host interface ≡ Some (get_or host place d)) × ((get_or host place d).interface ≡ interface)
+host_stream_found host interface place d is =
     let at = position-Some (λ (l : HostStream). l.interface == interface) host place d is in (
       find_at (λ (l : HostStream). l.interface == interface) host ∙ ap (slice_get host) (first_place host interface place d is) ∙ slice_get-get_or host place d at.0,
       eq_of _ _ at.1,
     )
 
--- no lane was found
-pub lane_missing : (host : List HostStream) (interface : ℕ) → position (λ l. l.interface == interface) host ≡ None → lane_on host interface ≡ None
-lane_missing host interface is =
+-- no host stream was found
+pub host_stream_missing : (host : List HostStream) (interface : ℕ) → position (λ l. l.interface == interface) host ≡ None → stream_on host interface ≡ None
+host_stream_missing host interface is =
     let p : HostStream → Bool = λ l. l.interface == interface in
     let past : position_or_len p host ≡ length host = position_none p host is in
     find_at p host ∙ slice_get_past host (position_or_len p host) (omega arith)
 
--- the lanes after one was written
-pub lane_written : (host : List HostStream) (interface place : ℕ) (l d : HostStream) → position (λ l. l.interface == interface) host ≡ Some place → l.interface ≡ interface
-    → (k : ℕ) → lane_on (set host place l) k ≡ (if k == interface then Some l else lane_on host k)
-lane_written host interface place l d is own k =
+-- the host streams after one was written
+pub host_stream_written : (host : List HostStream) (interface place : ℕ) (l d : HostStream) → position (λ l. l.interface == interface) host ≡ Some place → l.interface ≡ interface
+    → (k : ℕ) → stream_on (set host place l) k ≡ (if k == interface then Some l else stream_on host k)
+host_stream_written host interface place l d is own k =
     let found = position-Some (λ (l : HostStream). l.interface == interface) host place d is in
     elim (cases_eq k interface) [
       | inl same ↦
           (let mine : (l.interface == k) ≡ true = eq-eqb l.interface k (own ∙ sym same) in
           let is_first : place ≡ position_or_len (λ (l : HostStream). l.interface == k) host =
           sym (ap (λ (n : ℕ). position_or_len (λ (l : HostStream). l.interface == n) host) same ∙ first_place host interface place d is) in
-          find-set (λ (l : HostStream). l.interface == k) host place l is_first found.0 mine ∙ sym (ap (λ (b : Bool). if b then Some l else lane_on host k) (eq-eqb k interface same)))
+          find-set (λ (l : HostStream). l.interface == k) host place l is_first found.0 mine ∙ sym (ap (λ (b : Bool). if b then Some l else stream_on host k) (eq-eqb k interface same)))
       | inr other ↦
           (let was : (get_or host place d).interface ≡ interface = eq_of _ _ found.1 in
           let before : ((get_or host place d).interface == k) ≡ false = ne_eqb _ _ (λ e. other (sym e ∙ was)) in
           let after : (l.interface == k) ≡ false = ne_eqb _ _ (λ e. other (sym e ∙ own)) in
-          find_past (λ (l : HostStream). l.interface == k) host place l d before after ∙ sym (ap (λ (b : Bool). if b then Some l else lane_on host k) (ne_eqb k interface other)))
+          find_past (λ (l : HostStream). l.interface == k) host place l d before after ∙ sym (ap (λ (b : Bool). if b then Some l else stream_on host k) (ne_eqb k interface other)))
     ]

@@ -1,4 +1,4 @@
-pub mod CallsLemmas
+pub mod HostCallsLemmas
 pub mod SettingStreams
 pub mod HostKeptLemmas
 pub mod StandsAfterCalls

@@ -7,7 +7,7 @@ use Rattle.uac_topology.specs.FunctionKept.{AreInRange}
 use Rattle.uac_alt.specs.AltStreams.{StreamFields, linked_channels, packet_room}
 use Rattle.uac_alt.proofs.Fitting.{first_room}
 use Rattle.uac_alt.proofs.Parts.{parts_of, ran_of}
-use Rattle.uac_host.specs.Calls.{IsStreamOf, channels_at}
+use Rattle.uac_host.specs.HostCalls.{IsStreamOf, channels_at}
 use Rattle.uac_host.specs.HostFields.{IsRunnable}
 
 -- 1, 2, 4 or 8 microframes

@@ -16,14 +16,14 @@ use Rattle.uac_topology.specs.FunctionKept.{AreInRange}
 use Rattle.uac_topology.specs.Topology.{IsSoundFunction}
 use Rattle.uac_alt.specs.AltStreams.{StreamFields, stream_fields, stream_of}
 use Rattle.uac_alt.specs.declared.values.Stream.{Stream}
-use Rattle.uac_host.specs.declared.lanes.HostStream.{HostStream}
+use Rattle.uac_host.specs.declared.host_streams.HostStream.{HostStream}
 use Rattle.uac_host.specs.HostWorld.{HostWorld, Pace, Track, fresh_host}
 use Rattle.uac_host.specs.HostFields.{IsRunnable, PaceFields, TrackFields}
-use Rattle.uac_host.specs.Calls.{AreWhole, IsStreamOf, after_frames, after_packet, at_interface, channels_at, heard_in, in_frames, next_frames, next_size, packet_of, pace_after_report, pace_after_packet, size_of, fresh_pace, with_report, with_samples, with_stream, with_tone}
-use Rattle.uac_host.specs.HostKept.{IsKeptLane, HostStands, kept_lane, kept_pace, kept_report, kept_track, lane_on, resting_lane}
-use Rattle.uac_host.proofs.CallsLemmas.{after_frames_none}
+use Rattle.uac_host.specs.HostCalls.{AreWhole, IsStreamOf, track_after_frames, after_host_packet, at_interface, channels_at, heard_in, in_frames, next_frames, next_size, packet_of, pace_after_report, pace_after_packet, size_of, fresh_pace, with_report, with_samples, with_stream, with_track_tone}
+use Rattle.uac_host.specs.HostKept.{IsKeptStream, HostStands, kept_stream, kept_pace, kept_report, kept_track, stream_on, resting_stream}
+use Rattle.uac_host.proofs.HostCallsLemmas.{after_frames_none}
 use Rattle.uac_host.proofs.SettingStreams.{carried_by, channels_of, runnable}
-use Rattle.uac_host.proofs.HostKeptLemmas.{even_after, flat, lane_found, lane_missing, lane_written, eq_of, remainder_kept, size_kept}
+use Rattle.uac_host.proofs.HostKeptLemmas.{even_after, flat, host_stream_found, host_stream_missing, host_stream_written, eq_of, remainder_kept, size_kept}
 
 -- what a map has where it was changed, and elsewhere
 pub here : {A : Type 0} (interface : ℕ) (x : A) (before : ℕ → A) → at_interface interface x before interface ≡ x
@@ -40,21 +40,21 @@ pub record Turned (interface : ℕ) (w after : HostWorld) : Type 0 where
   pub whole : All (λ frame. length frame ≡ channels_at w.function interface) (after.tracks interface).waiting
   pub streams : (p : Pace) → after.paces interface ≡ Some p → IsStreamOf w.function interface p.stream
 
--- what a lane is by its parts
-pub lane_is : (l : HostStream) (interface : ℕ) (pace : Option PaceFields) (track : TrackFields) → l.interface ≡ interface → l.pace ≡ pace → l.track ≡ track
+-- what a host stream is by its parts
+pub host_stream_is : (l : HostStream) (interface : ℕ) (pace : Option PaceFields) (track : TrackFields) → l.interface ≡ interface → l.pace ≡ pace → l.track ≡ track
     → l ≡ record { interface = interface; pace = pace; track = track }
-lane_is l interface pace track a b c =
+host_stream_is l interface pace track a b c =
     ap (λ (n : ℕ). let m : HostStream = record { interface = n; pace = l.pace; track = l.track } in m) a
     ∙ ap (λ (p : Option PaceFields). let m : HostStream = record { interface = interface; pace = p; track = l.track } in m) b
     ∙ ap (λ (t : TrackFields). let m : HostStream = record { interface = interface; pace = pace; track = t } in m) c
 
-pub lane_to : (l : HostStream) (w : HostWorld) (interface : ℕ) → l.interface ≡ interface → l.pace ≡ option_map kept_pace (w.paces interface)
-    → l.track ≡ kept_track (w.tracks interface) → l ≡ kept_lane w interface
-lane_to l w interface a b c = lane_is l interface (option_map kept_pace (w.paces interface)) (kept_track (w.tracks interface)) a b c
+pub host_stream_to : (l : HostStream) (w : HostWorld) (interface : ℕ) → l.interface ≡ interface → l.pace ≡ option_map kept_pace (w.paces interface)
+    → l.track ≡ kept_track (w.tracks interface) → l ≡ kept_stream w interface
+host_stream_to l w interface a b c = host_stream_is l interface (option_map kept_pace (w.paces interface)) (kept_track (w.tracks interface)) a b c
 
--- the place of an interface's lane
+-- the place of an interface's host stream
 abbrev pub place_of : ℕ → List HostStream → Option ℕ
-place_of interface lanes = position (λ (l : HostStream). l.interface == interface) lanes
+place_of interface host_streams = position (λ (l : HostStream). l.interface == interface) host_streams
 
 some_same : {A : Type 0} (x y : A) → Some x ≡ Some y → x ≡ y
 some_same x y e = cc
@@ -67,20 +67,20 @@ mapped_is : {A B : Type 0} (x y : B) (o : Option A) → Some x ≡ option_map (�
 mapped_is x y None e = cc
 mapped_is x y (Some s) e = some_same x y e
 
--- the lane at the place of an interface
-pub lane_kept : (host : List HostStream) (w : HostWorld) (interface place : ℕ) (d : HostStream) → HostStands host w → position (λ l. l.interface == interface) host ≡ Some place
-    → get_or host place d ≡ kept_lane w interface
-lane_kept host w interface place d stands is =
-    mapped_is (get_or host place d) (kept_lane w interface) (interface_in w.function interface)
-    (sym (lane_found host interface place d is).0 ∙ stands.lanes interface)
+-- the host stream at the place of an interface
+pub host_stream_kept : (host : List HostStream) (w : HostWorld) (interface place : ℕ) (d : HostStream) → HostStands host w → position (λ l. l.interface == interface) host ≡ Some place
+    → get_or host place d ≡ kept_stream w interface
+host_stream_kept host w interface place d stands is =
+    mapped_is (get_or host place d) (kept_stream w interface) (interface_in w.function interface)
+    (sym (host_stream_found host interface place d is).0 ∙ stands.host_streams interface)
 
 pub is_kept : (host : List HostStream) (w : HostWorld) (interface place : ℕ) (d l : HostStream) → HostStands host w → position (λ l. l.interface == interface) host ≡ Some place
-    → l ≡ get_or host place d → IsKeptLane w l × (l.interface ≡ interface)
+    → l ≡ get_or host place d → IsKeptStream w l × (l.interface ≡ interface)
 is_kept host w interface place d l stands is read =
-    let lane : l ≡ kept_lane w interface = read ∙ lane_kept host w interface place d stands is in
-    let own : l.interface ≡ interface = ap (λ (m : HostStream). m.interface) lane in (
+    let host_stream : l ≡ kept_stream w interface = read ∙ host_stream_kept host w interface place d stands is in
+    let own : l.interface ≡ interface = ap (λ (m : HostStream). m.interface) host_stream in (
       record {
-        lane = subst (λ (n : ℕ). l ≡ kept_lane w n) (sym own) lane;
+        host_stream = subst (λ (n : ℕ). l ≡ kept_stream w n) (sym own) host_stream;
         whole = subst (λ (n : ℕ). All (λ frame. length frame ≡ channels_at w.function n) (w.tracks n).waiting) (sym own) (stands.whole interface);
         streams = subst (λ (n : ℕ). (p : Pace) → w.paces n ≡ Some p → IsStreamOf w.function n p.stream) (sym own) (stands.streams interface);
       },
@@ -89,24 +89,24 @@ is_kept host w interface place d l stands is read =
 
 -- other interfaces stay
 others : (host new : List HostStream) (w after : HostWorld) (interface : ℕ) → HostStands host w → Turned interface w after
-    → ((k : ℕ) → k ≢ interface → lane_on new k ≡ lane_on host k)
-    → lane_on new interface ≡ option_map (λ s. kept_lane after interface) (interface_in w.function interface)
+    → ((k : ℕ) → k ≢ interface → stream_on new k ≡ stream_on host k)
+    → stream_on new interface ≡ option_map (λ s. kept_stream after interface) (interface_in w.function interface)
     → HostStands new after
-others host new w after interface stands turned stay own = record { lanes = lanes; whole = whole; streams = streams } where
-  same_lane : (k : ℕ) → k ≢ interface → kept_lane after k ≡ kept_lane w k
-  same_lane k other =
-      lane_is (kept_lane after k) k (option_map kept_pace (w.paces k)) (kept_track (w.tracks k)) refl (ap (option_map kept_pace) (turned.paces k other)) (ap kept_track (turned.tracks k other))
+others host new w after interface stands turned stay own = record { host_streams = host_streams; whole = whole; streams = streams } where
+  same_host_stream : (k : ℕ) → k ≢ interface → kept_stream after k ≡ kept_stream w k
+  same_host_stream k other =
+      host_stream_is (kept_stream after k) k (option_map kept_pace (w.paces k)) (kept_track (w.tracks k)) refl (ap (option_map kept_pace) (turned.paces k other)) (ap kept_track (turned.tracks k other))
 
-  lanes : (k : ℕ) → lane_on new k ≡ option_map (λ s. kept_lane after k) (interface_in after.function k)
-  lanes k = elim (cases_eq k interface) [
+  host_streams : (k : ℕ) → stream_on new k ≡ option_map (λ s. kept_stream after k) (interface_in after.function k)
+  host_streams k = elim (cases_eq k interface) [
     | inl same ↦
-        ap (lane_on new) same ∙ own
-        ∙ ap (λ (n : ℕ). option_map (λ s. kept_lane after n) (interface_in w.function n)) (sym same)
-        ∙ ap (λ (f : FunctionFields). option_map (λ s. kept_lane after k) (interface_in f k)) (sym turned.function)
+        ap (stream_on new) same ∙ own
+        ∙ ap (λ (n : ℕ). option_map (λ s. kept_stream after n) (interface_in w.function n)) (sym same)
+        ∙ ap (λ (f : FunctionFields). option_map (λ s. kept_stream after k) (interface_in f k)) (sym turned.function)
     | inr other ↦
-        stay k other ∙ stands.lanes k
-        ∙ ap (λ (l : HostStream). option_map (λ s. l) (interface_in w.function k)) (sym (same_lane k other))
-        ∙ ap (λ (f : FunctionFields). option_map (λ s. kept_lane after k) (interface_in f k)) (sym turned.function)
+        stay k other ∙ stands.host_streams k
+        ∙ ap (λ (l : HostStream). option_map (λ s. l) (interface_in w.function k)) (sym (same_host_stream k other))
+        ∙ ap (λ (f : FunctionFields). option_map (λ s. kept_stream after k) (interface_in f k)) (sym turned.function)
   ]
 
   whole : (k : ℕ) → All (λ frame. length frame ≡ channels_at after.function k) (after.tracks k).waiting
@@ -123,37 +123,37 @@ others host new w after interface stands turned stay own = record { lanes = lane
         | inr other ↦ stands.streams k p (sym (turned.paces k other) ∙ runs)
       ])
 
--- the interface's lane was written
+-- the interface's host stream was written
 pub stands_written : (host : List HostStream) (w after : HostWorld) (interface place : ℕ) (l d : HostStream) → HostStands host w → Turned interface w after
     → position (λ l. l.interface == interface) host ≡ Some place → l.interface ≡ interface → l.pace ≡ option_map kept_pace (after.paces interface)
     → l.track ≡ kept_track (after.tracks interface) → HostStands (set host place l) after
 stands_written host w after interface place l d stands turned is own pace track =
     others host (set host place l) w after interface stands turned stay mine where
-      lane : l ≡ kept_lane after interface
-      lane = lane_is l interface (option_map kept_pace (after.paces interface)) (kept_track (after.tracks interface)) own pace track
+      host_stream : l ≡ kept_stream after interface
+      host_stream = host_stream_is l interface (option_map kept_pace (after.paces interface)) (kept_track (after.tracks interface)) own pace track
 
-      stay : (k : ℕ) → k ≢ interface → lane_on (set host place l) k ≡ lane_on host k
-      stay k other = lane_written host interface place l d is own k ∙ ap (λ (b : Bool). if b then Some l else lane_on host k) (ne_eqb k interface other)
+      stay : (k : ℕ) → k ≢ interface → stream_on (set host place l) k ≡ stream_on host k
+      stay k other = host_stream_written host interface place l d is own k ∙ ap (λ (b : Bool). if b then Some l else stream_on host k) (ne_eqb k interface other)
 
-      mine : lane_on (set host place l) interface ≡ option_map (λ s. kept_lane after interface) (interface_in w.function interface)
+      mine : stream_on (set host place l) interface ≡ option_map (λ s. kept_stream after interface) (interface_in w.function interface)
       mine =
-          lane_written host interface place l d is own interface
-          ∙ ap (λ (b : Bool). if b then Some l else lane_on host interface) (eq-eqb interface interface refl)
-          ∙ ap (λ (m : HostStream). Some m) lane
-          ∙ mapped_some (get_or host place d) (kept_lane w interface) (kept_lane after interface) (interface_in w.function interface)
-          (sym (lane_found host interface place d is).0 ∙ stands.lanes interface)
+          host_stream_written host interface place l d is own interface
+          ∙ ap (λ (b : Bool). if b then Some l else stream_on host interface) (eq-eqb interface interface refl)
+          ∙ ap (λ (m : HostStream). Some m) host_stream
+          ∙ mapped_some (get_or host place d) (kept_stream w interface) (kept_stream after interface) (interface_in w.function interface)
+          (sym (host_stream_found host interface place d is).0 ∙ stands.host_streams interface)
 
 nowhere : {A B : Type 0} (x y : B) (o : Option A) → None ≡ option_map (λ s. x) o → None ≡ option_map (λ s. y) o
 nowhere x y None e = refl
 nowhere x y (Some s) e = cc
 
--- the interface has no lane
+-- the interface has no host stream
 pub stands_missing : (host : List HostStream) (w after : HostWorld) (interface : ℕ) → HostStands host w → Turned interface w after
     → position (λ l. l.interface == interface) host ≡ None → HostStands host after
 stands_missing host w after interface stands turned is =
-    let none : lane_on host interface ≡ None = lane_missing host interface is in
+    let none : stream_on host interface ≡ None = host_stream_missing host interface is in
     others host host w after interface stands turned (λ k other. refl)
-    (none ∙ nowhere (kept_lane w interface) (kept_lane after interface) (interface_in w.function interface) (sym none ∙ stands.lanes interface))
+    (none ∙ nowhere (kept_stream w interface) (kept_stream after interface) (interface_in w.function interface) (sym none ∙ stands.host_streams interface))
 
 -- ---- the calls, each at its interface
 
@@ -173,8 +173,8 @@ report_turns host w interface value stands = record {
       subst (λ (s : StreamFields). IsStreamOf w.function interface s) (ap (λ (q : Pace). q.stream) found.2) (stands.streams interface found.0 found.1));
 }
 
-pub tone_turns : (host : List HostStream) (w : HostWorld) (interface : ℕ) (tone : Tone) → HostStands host w → Turned interface w (with_tone interface tone w)
-unfolding with_tone
+pub tone_turns : (host : List HostStream) (w : HostWorld) (interface : ℕ) (tone : Tone) → HostStands host w → Turned interface w (with_track_tone interface tone w)
+unfolding with_track_tone
 tone_turns host w interface tone stands =
     let t : Track = record (w.tracks interface) { tone = tone; place = 0 } in
     record {
@@ -253,58 +253,58 @@ samples_kept w interface samples whole =
     ∙ ap (λ (xs : List ℤ). let k : TrackFields = record { samples = xs; tone = t.tone; place = t.place % 4294967296 } in k)
     (flat_map-append (λ frame. frame) t.waiting frames ∙ ap (λ (xs : List ℤ). flat t.waiting ++ xs) joined)
 
-pub packet_turns : (host : List HostStream) (w : HostWorld) (interface : ℕ) → HostStands host w → Turned interface w (after_packet interface w)
-unfolding after_packet
+pub packet_turns : (host : List HostStream) (w : HostWorld) (interface : ℕ) → HostStands host w → Turned interface w (after_host_packet interface w)
+unfolding after_host_packet
 packet_turns host w interface stands = record {
   function = refl;
   paces = λ k other. elsewhere interface (option_map pace_after_packet (w.paces interface)) w.paces k other;
-  tracks = λ k other. elsewhere interface (after_frames (size_of w interface) (w.tracks interface)) w.tracks k other;
-  whole = subst (λ (t : Track). All (λ frame. length frame ≡ channels_at w.function interface) t.waiting) (sym (here interface (after_frames (size_of w interface) (w.tracks interface)) w.tracks))
+  tracks = λ k other. elsewhere interface (track_after_frames (size_of w interface) (w.tracks interface)) w.tracks k other;
+  whole = subst (λ (t : Track). All (λ frame. length frame ≡ channels_at w.function interface) t.waiting) (sym (here interface (track_after_frames (size_of w interface) (w.tracks interface)) w.tracks))
       (even_after (channels_at w.function interface) (size_of w interface) (w.tracks interface) (stands.whole interface));
   streams = λ p runs.
       (let found = mapped pace_after_packet (w.paces interface) p (sym (here interface (option_map pace_after_packet (w.paces interface)) w.paces) ∙ runs) in
       subst (λ (s : StreamFields). IsStreamOf w.function interface s) (ap (λ (q : Pace). q.stream) found.2) (stands.streams interface found.0 found.1));
 }
 
--- ---- what a lane does
+-- ---- what a host stream does
 
 unmapped : {A B : Type 0} (f : A → B) (o : Option A) → option_map f o ≡ None → o ≡ None
 unmapped f None e = refl
 unmapped f (Some x) e = cc
 
--- the stream that a lane runs
-pub runs_in : (w : HostWorld) (l : HostStream) (fields : PaceFields) → IsKeptLane w l → l.pace ≡ Some fields → (p : Pace) × (w.paces l.interface ≡ Some p) × (kept_pace p ≡ fields)
-runs_in w l fields kept runs = mapped kept_pace (w.paces l.interface) fields (sym (ap (λ (m : HostStream). m.pace) kept.lane) ∙ runs)
+-- the stream that a host stream runs
+pub runs_in : (w : HostWorld) (l : HostStream) (fields : PaceFields) → IsKeptStream w l → l.pace ≡ Some fields → (p : Pace) × (w.paces l.interface ≡ Some p) × (kept_pace p ≡ fields)
+runs_in w l fields kept runs = mapped kept_pace (w.paces l.interface) fields (sym (ap (λ (m : HostStream). m.pace) kept.host_stream) ∙ runs)
 
-pub rests_in : (w : HostWorld) (l : HostStream) → IsKeptLane w l → l.pace ≡ None → w.paces l.interface ≡ None
-rests_in w l kept rests = unmapped kept_pace (w.paces l.interface) (sym (ap (λ (m : HostStream). m.pace) kept.lane) ∙ rests)
+pub rests_in : (w : HostWorld) (l : HostStream) → IsKeptStream w l → l.pace ≡ None → w.paces l.interface ≡ None
+rests_in w l kept rests = unmapped kept_pace (w.paces l.interface) (sym (ap (λ (m : HostStream). m.pace) kept.host_stream) ∙ rests)
 
 -- where no stream runs, no packet is formed
 pub unsent : (w : HostWorld) (interface : ℕ) → w.paces interface ≡ None
-    → (0 ≡ size_of w interface) × ([] ≡ packet_of w interface) × (kept_lane w interface ≡ kept_lane (after_packet interface w) interface)
-unfolding size_of packet_of after_packet
+    → (0 ≡ size_of w interface) × ([] ≡ packet_of w interface) × (kept_stream w interface ≡ kept_stream (after_host_packet interface w) interface)
+unfolding size_of packet_of after_host_packet
 unsent w interface none =
     let size : 0 ≡ option_map_or next_size (w.paces interface) 0 = sym (ap (λ (o : Option Pace). option_map_or next_size o 0) none) in
-    let track : w.tracks interface ≡ after_frames (option_map_or next_size (w.paces interface) 0) (w.tracks interface) =
-    sym (after_frames_none (w.tracks interface)) ∙ ap (λ (n : ℕ). after_frames n (w.tracks interface)) size in
+    let track : w.tracks interface ≡ track_after_frames (option_map_or next_size (w.paces interface) 0) (w.tracks interface) =
+    sym (after_frames_none (w.tracks interface)) ∙ ap (λ (n : ℕ). track_after_frames n (w.tracks interface)) size in
     let pace : w.paces interface ≡ option_map pace_after_packet (w.paces interface) = none ∙ sym (ap (option_map pace_after_packet) none) in (
       size,
       sym (ap (λ (o : Option Pace). option_map_or (λ p. bytes_of_frames p.stream.subslot p.stream.bits (next_frames p.stream.channels (next_size p) (w.tracks interface))) o []) none),
-      lane_to (kept_lane w interface) (after_packet interface w) interface refl (ap (option_map kept_pace) (pace ∙ sym (here interface (option_map pace_after_packet (w.paces interface)) w.paces)))
-          (ap kept_track (track ∙ sym (here interface (after_frames (option_map_or next_size (w.paces interface) 0) (w.tracks interface)) w.tracks))),
+      host_stream_to (kept_stream w interface) (after_host_packet interface w) interface refl (ap (option_map kept_pace) (pace ∙ sym (here interface (option_map pace_after_packet (w.paces interface)) w.paces)))
+          (ap kept_track (track ∙ sym (here interface (track_after_frames (option_map_or next_size (w.paces interface) 0) (w.tracks interface)) w.tracks))),
     )
 
-pub lane_sends : (w : HostWorld) (l : HostStream) (fields next : PaceFields) (channels subslot bits frames : ℕ) (track : TrackFields) (bytes : List ℕ)
-    → IsKeptLane w l → l.pace ≡ Some fields
+pub host_stream_sends : (w : HostWorld) (l : HostStream) (fields next : PaceFields) (channels subslot bits frames : ℕ) (track : TrackFields) (bytes : List ℕ)
+    → IsKeptStream w l → l.pace ≡ Some fields
     → frames ≡ (fields.remainder + fields.stream.service * fields.value) / 65536
     → next ≡ record fields { remainder = (fields.remainder + fields.stream.service * fields.value) % 65536 }
     → channels ≡ next.stream.channels → subslot ≡ next.stream.subslot → bits ≡ next.stream.bits
     → ((t : Track) → All (λ frame. length frame ≡ channels) t.waiting → l.track ≡ kept_track t
-    → (bytes ≡ bytes_of_frames subslot bits (next_frames channels frames t)) × (track ≡ kept_track (after_frames frames t)))
+    → (bytes ≡ bytes_of_frames subslot bits (next_frames channels frames t)) × (track ≡ kept_track (track_after_frames frames t)))
     → (frames ≡ size_of w l.interface) × (bytes ≡ packet_of w l.interface)
-    × (record { interface = l.interface; pace = Some next; track = track } ≡ kept_lane (after_packet l.interface w) l.interface)
-unfolding size_of packet_of after_packet
-lane_sends w l fields next channels subslot bits frames track bytes kept runs framed nexted as_channels as_subslot as_bits filled =
+    × (record { interface = l.interface; pace = Some next; track = track } ≡ kept_stream (after_host_packet l.interface w) l.interface)
+unfolding size_of packet_of after_host_packet
+host_stream_sends w l fields next channels subslot bits frames track bytes kept runs framed nexted as_channels as_subslot as_bits filled =
     let i : ℕ = l.interface in
     let t : Track = w.tracks i in
     let found = runs_in w l fields kept runs in
@@ -318,7 +318,7 @@ lane_sends w l fields next channels subslot bits frames track bytes kept runs fr
     let linked : channels ≡ channels_at w.function i = same_channels ∙ channels_of w.function i p.stream (kept.streams p found.1) in
     let even : All (λ frame. length frame ≡ channels) t.waiting =
     subst (λ (n : ℕ). All (λ frame. length frame ≡ n) t.waiting) (sym linked) kept.whole in
-    let both = filled t even (ap (λ (m : HostStream). m.track) kept.lane) in
+    let both = filled t even (ap (λ (m : HostStream). m.track) kept.host_stream) in
     let whole_size : option_map_or next_size (w.paces i) 0 ≡ next_size p = ap (λ (o : Option Pace). option_map_or next_size o 0) found.1 in
     let packet : bytes ≡ bytes_of_frames p.stream.subslot p.stream.bits (next_frames p.stream.channels (next_size p) t) =
     both.0
@@ -333,14 +333,14 @@ lane_sends w l fields next channels subslot bits frames track bytes kept runs fr
       size ∙ sym whole_size,
       packet
           ∙ sym (ap (λ (o : Option Pace). option_map_or (λ q. bytes_of_frames q.stream.subslot q.stream.bits (next_frames q.stream.channels (next_size q) t)) o []) found.1),
-      lane_to (record { interface = i; pace = Some next; track = track }) (after_packet i w) i refl
+      host_stream_to (record { interface = i; pace = Some next; track = track }) (after_host_packet i w) i refl
           (ap (λ (f : PaceFields). Some f) kept_next ∙ sym (ap (option_map kept_pace) (here i (option_map pace_after_packet (w.paces i)) w.paces ∙ ap (option_map pace_after_packet) found.1)))
-          (both.1 ∙ ap (λ (n : ℕ). kept_track (after_frames n t)) (size ∙ sym whole_size)
-          ∙ sym (ap kept_track (here i (after_frames (option_map_or next_size (w.paces i) 0) t) w.tracks))),
+          (both.1 ∙ ap (λ (n : ℕ). kept_track (track_after_frames n t)) (size ∙ sym whole_size)
+          ∙ sym (ap kept_track (here i (track_after_frames (option_map_or next_size (w.paces i) 0) t) w.tracks))),
     )
 
 -- what is heard where a stream runs, and where none does
-pub heard_running : (w : HostWorld) (l : HostStream) (fields : PaceFields) (channels subslot bits : ℕ) (bytes : List ℕ) → IsKeptLane w l → l.pace ≡ Some fields
+pub heard_running : (w : HostWorld) (l : HostStream) (fields : PaceFields) (channels subslot bits : ℕ) (bytes : List ℕ) → IsKeptStream w l → l.pace ≡ Some fields
     → channels ≡ fields.stream.channels → subslot ≡ fields.stream.subslot → bits ≡ fields.stream.bits
     → heard_in w l.interface bytes ≡ frames_of_bytes channels subslot bits bytes
 unfolding heard_in
@@ -359,17 +359,17 @@ heard_nothing w interface bytes none = ap (λ (o : Option Pace). option_map_or (
 some_none : {A B : Type 0} (x : A) → Some x ≡ None → B
 some_none x e = absurd cc
 
--- an interface without a lane runs no stream
+-- an interface without a host stream runs no stream
 pub no_stream : (inside now : List HostStream) (w : HostWorld) (interface : ℕ) → inside ≡ now → HostStands now w → None ≡ place_of interface inside → w.paces interface ≡ None
 no_stream inside now w interface same stands is = by (w.paces interface) refl where
   by : (o : Option Pace) → w.paces interface ≡ o → o ≡ None
   by None e = refl
   by (Some p) e =
       let carried = carried_by w.function interface p.stream (stands.streams interface p e) in
-      let there : lane_on now interface ≡ Some (kept_lane w interface) =
-      stands.lanes interface ∙ ap (λ (o : Option StreamInterface). option_map (λ s. kept_lane w interface) o) carried.1 in
-      let none : lane_on now interface ≡ None = lane_missing now interface (sym (is ∙ ap (place_of interface) same)) in
-      some_none (kept_lane w interface) (sym there ∙ none)
+      let there : stream_on now interface ≡ Some (kept_stream w interface) =
+      stands.host_streams interface ∙ ap (λ (o : Option StreamInterface). option_map (λ s. kept_stream w interface) o) carried.1 in
+      let none : stream_on now interface ≡ None = host_stream_missing now interface (sym (is ∙ ap (place_of interface) same)) in
+      some_none (kept_stream w interface) (sym there ∙ none)
 
 -- ---- the start
 
@@ -378,31 +378,31 @@ picked : (b : Bool) (x y : HostStream) (s : StreamInterface) (o : Option HostStr
 picked true x y s o r same rest = ap (λ (l : HostStream). Some l) (same refl)
 picked false x y s o r same rest = rest
 
-resting_found : (streams : List StreamInterface) (k : ℕ) → lane_on (map (λ s. resting_lane s.number) streams) k ≡ option_map (λ s. resting_lane k) (find (λ s. s.number == k) streams)
+resting_found : (streams : List StreamInterface) (k : ℕ) → stream_on (map (λ s. resting_stream s.number) streams) k ≡ option_map (λ s. resting_stream k) (find (λ s. s.number == k) streams)
 resting_found [] k = refl
 resting_found (s ∷ streams) k =
-    picked (s.number == k) (resting_lane s.number) (resting_lane k) s (lane_on (map (λ s. resting_lane s.number) streams) k) (find (λ s. s.number == k) streams)
-    (λ same. ap resting_lane (eq_of s.number k same)) (resting_found streams k)
+    picked (s.number == k) (resting_stream s.number) (resting_stream k) s (stream_on (map (λ s. resting_stream s.number) streams) k) (find (λ s. s.number == k) streams)
+    (λ same. ap resting_stream (eq_of s.number k same)) (resting_found streams k)
 
-pub stands_fresh : (function : FunctionFields) (host : List HostStream) → host ≡ map (λ s. resting_lane s.number) function.streams → HostStands host (fresh_host function)
+pub stands_fresh : (function : FunctionFields) (host : List HostStream) → host ≡ map (λ s. resting_stream s.number) function.streams → HostStands host (fresh_host function)
 unfolding fresh_host
 stands_fresh function host is = record {
-  lanes = λ k. ap (λ (ls : List HostStream). lane_on ls k) is ∙ resting_found function.streams k;
+  host_streams = λ k. ap (λ (ls : List HostStream). stream_on ls k) is ∙ resting_found function.streams k;
   whole = λ k i d below. absurd (omega arith);
   streams = λ k p runs. absurd (none_some p runs);
 } where
   none_some : (p : Pace) → None ≡ Some p → ⊥
   none_some p e = cc
 
--- ---- a lane that was read, and written back
+-- ---- a host stream that was read, and written back
 
 pub kept_at : (now inside : List HostStream) (w : HostWorld) (interface place : ℕ) (old : HostStream) → inside ≡ now → HostStands now w
-    → Some place ≡ place_of interface inside → old ≡ get_or inside place old → IsKeptLane w old × (old.interface ≡ interface)
+    → Some place ≡ place_of interface inside → old ≡ get_or inside place old → IsKeptStream w old × (old.interface ≡ interface)
 kept_at now inside w interface place old same stands is read =
     is_kept inside w interface place old old (subst (λ (ls : List HostStream). HostStands ls w) (sym same) stands) (sym is) read
 
 pub put_back : (now inside : List HostStream) (w after : HostWorld) (interface place : ℕ) (old new : HostStream) → inside ≡ now → HostStands now w → Turned interface w after
-    → Some place ≡ place_of interface inside → new ≡ kept_lane after interface → HostStands (set inside place new) after
+    → Some place ≡ place_of interface inside → new ≡ kept_stream after interface → HostStands (set inside place new) after
 put_back now inside w after interface place old new same stands turned is kept =
     stands_written inside w after interface place new old (subst (λ (ls : List HostStream). HostStands ls w) (sym same) stands) turned (sym is)
     (ap (λ (l : HostStream). l.interface) kept) (ap (λ (l : HostStream). l.pace) kept) (ap (λ (l : HostStream). l.track) kept)
@@ -412,63 +412,63 @@ pub left_alone : (now inside : List HostStream) (w after : HostWorld) (interface
 left_alone now inside w after interface same stands turned is =
     stands_missing now w after interface stands turned (sym (is ∙ ap (place_of interface) same))
 
--- the lane of an interface by the world
-own_lane : (w : HostWorld) (interface : ℕ) (l : HostStream) → IsKeptLane w l → l.interface ≡ interface → l ≡ kept_lane w interface
-own_lane w interface l kept own = subst (λ (n : ℕ). l ≡ kept_lane w n) own kept.lane
+-- the host stream of an interface by the world
+own_host_stream : (w : HostWorld) (interface : ℕ) (l : HostStream) → IsKeptStream w l → l.interface ≡ interface → l ≡ kept_stream w interface
+own_host_stream w interface l kept own = subst (λ (n : ℕ). l ≡ kept_stream w n) own kept.host_stream
 
 held_alike : (value : ℕ) (o : Option Pace) → option_map (kept_report value) (option_map kept_pace o) ≡ option_map kept_pace (option_map (pace_after_report value) o)
 held_alike value None = refl
 held_alike value (Some p) = refl
 
-pub report_kept : (w : HostWorld) (interface value : ℕ) (old new : HostStream) → IsKeptLane w old → old.interface ≡ interface
-    → new ≡ record old { pace = option_map (kept_report value) old.pace } → new ≡ kept_lane (with_report interface value w) interface
+pub report_kept : (w : HostWorld) (interface value : ℕ) (old new : HostStream) → IsKeptStream w old → old.interface ≡ interface
+    → new ≡ record old { pace = option_map (kept_report value) old.pace } → new ≡ kept_stream (with_report interface value w) interface
 unfolding with_report
 report_kept w interface value old new kept own is =
-    let lane = own_lane w interface old kept own in
-    lane_to new (with_report interface value w) interface
+    let host_stream = own_host_stream w interface old kept own in
+    host_stream_to new (with_report interface value w) interface
     (ap (λ (l : HostStream). l.interface) is ∙ own)
     (ap (λ (l : HostStream). l.pace) is
-    ∙ ap (λ (l : HostStream). option_map (kept_report value) l.pace) lane
+    ∙ ap (λ (l : HostStream). option_map (kept_report value) l.pace) host_stream
     ∙ held_alike value (w.paces interface)
     ∙ sym (ap (option_map kept_pace) (here interface (option_map (pace_after_report value) (w.paces interface)) w.paces)))
-    (ap (λ (l : HostStream). l.track) is ∙ ap (λ (l : HostStream). l.track) lane)
+    (ap (λ (l : HostStream). l.track) is ∙ ap (λ (l : HostStream). l.track) host_stream)
 
-pub tone_lane : (w : HostWorld) (interface : ℕ) (tone : Tone) (old : HostStream) (track : TrackFields) → IsKeptLane w old → old.interface ≡ interface
+pub host_stream_with_tone : (w : HostWorld) (interface : ℕ) (tone : Tone) (old : HostStream) (track : TrackFields) → IsKeptStream w old → old.interface ≡ interface
     → track ≡ record old.track { tone = tone; place = 0 }
-    → record { interface = old.interface; pace = old.pace; track = track } ≡ kept_lane (with_tone interface tone w) interface
-unfolding with_tone
-tone_lane w interface tone old track kept own is =
-    let lane = own_lane w interface old kept own in
+    → record { interface = old.interface; pace = old.pace; track = track } ≡ kept_stream (with_track_tone interface tone w) interface
+unfolding with_track_tone
+host_stream_with_tone w interface tone old track kept own is =
+    let host_stream = own_host_stream w interface old kept own in
     let t : Track = record (w.tracks interface) { tone = tone; place = 0 } in
-    lane_to (record { interface = old.interface; pace = old.pace; track = track }) (with_tone interface tone w) interface own (ap (λ (l : HostStream). l.pace) lane)
+    host_stream_to (record { interface = old.interface; pace = old.pace; track = track }) (with_track_tone interface tone w) interface own (ap (λ (l : HostStream). l.pace) host_stream)
     (is
-    ∙ ap (λ (l : HostStream). let k : TrackFields = record l.track { tone = tone; place = 0 } in k) lane
+    ∙ ap (λ (l : HostStream). let k : TrackFields = record l.track { tone = tone; place = 0 } in k) host_stream
     ∙ sym (ap kept_track (here interface t w.tracks)))
 
-pub samples_lane : (w : HostWorld) (interface : ℕ) (samples : List ℤ) (old : HostStream) (track : TrackFields) → AreWhole w.function interface samples
-    → IsKeptLane w old → old.interface ≡ interface → track ≡ record old.track { samples = old.track.samples ++ samples }
-    → record { interface = old.interface; pace = old.pace; track = track } ≡ kept_lane (with_samples interface samples w) interface
+pub host_stream_with_samples : (w : HostWorld) (interface : ℕ) (samples : List ℤ) (old : HostStream) (track : TrackFields) → AreWhole w.function interface samples
+    → IsKeptStream w old → old.interface ≡ interface → track ≡ record old.track { samples = old.track.samples ++ samples }
+    → record { interface = old.interface; pace = old.pace; track = track } ≡ kept_stream (with_samples interface samples w) interface
 unfolding with_samples
-samples_lane w interface samples old track whole kept own is =
-    let lane = own_lane w interface old kept own in
-    lane_to (record { interface = old.interface; pace = old.pace; track = track }) (with_samples interface samples w) interface own (ap (λ (l : HostStream). l.pace) lane)
+host_stream_with_samples w interface samples old track whole kept own is =
+    let host_stream = own_host_stream w interface old kept own in
+    host_stream_to (record { interface = old.interface; pace = old.pace; track = track }) (with_samples interface samples w) interface own (ap (λ (l : HostStream). l.pace) host_stream)
     (is
-    ∙ ap (λ (l : HostStream). let k : TrackFields = record l.track { samples = l.track.samples ++ samples } in k) lane
+    ∙ ap (λ (l : HostStream). let k : TrackFields = record l.track { samples = l.track.samples ++ samples } in k) host_stream
     ∙ sym (samples_kept w interface samples whole))
 
 started_alike : (o : Option Stream) → option_map (λ s. kept_pace (fresh_pace (stream_fields s))) o ≡ option_map kept_pace (option_map fresh_pace (option_map stream_fields o))
 started_alike None = refl
 started_alike (Some s) = refl
 
-pub stream_lane : (w : HostWorld) (interface : ℕ) (stream : Option Stream) (old new : HostStream) → IsKeptLane w old → old.interface ≡ interface
-    → new ≡ record old { pace = option_map (λ s. kept_pace (fresh_pace (stream_fields s))) stream } → new ≡ kept_lane (with_stream interface (option_map stream_fields stream) w) interface
+pub host_stream_with_stream : (w : HostWorld) (interface : ℕ) (stream : Option Stream) (old new : HostStream) → IsKeptStream w old → old.interface ≡ interface
+    → new ≡ record old { pace = option_map (λ s. kept_pace (fresh_pace (stream_fields s))) stream } → new ≡ kept_stream (with_stream interface (option_map stream_fields stream) w) interface
 unfolding with_stream
-stream_lane w interface stream old new kept own is =
-    let lane = own_lane w interface old kept own in
-    lane_to new (with_stream interface (option_map stream_fields stream) w) interface
+host_stream_with_stream w interface stream old new kept own is =
+    let host_stream = own_host_stream w interface old kept own in
+    host_stream_to new (with_stream interface (option_map stream_fields stream) w) interface
     (ap (λ (l : HostStream). l.interface) is ∙ own)
     (ap (λ (l : HostStream). l.pace) is ∙ started_alike stream ∙ sym (ap (option_map kept_pace) (here interface (option_map fresh_pace (option_map stream_fields stream)) w.paces)))
-    (ap (λ (l : HostStream). l.track) is ∙ ap (λ (l : HostStream). l.track) lane)
+    (ap (λ (l : HostStream). l.track) is ∙ ap (λ (l : HostStream). l.track) host_stream)
 
 pub given_of : (function : FunctionFields) (interface : ℕ) (stream : Option Stream) → IfSome stream (λ s. IsStreamOf function interface (stream_fields s))
     → (s : StreamFields) → option_map stream_fields stream ≡ Some s → IsStreamOf function interface s
@@ -489,7 +489,7 @@ append_stands (Ok x) now inside w interface place samples old track same stands 
     let own = kept_at now inside w interface place old same stands is read in
     let new : HostStream = record { interface = old.interface; pace = old.pace; track = track } in
     put_back now inside w (with_samples interface samples w) interface place old new same stands (samples_turn now w interface samples stands) is
-    (samples_lane w interface samples old track whole own.0 own.1 appended)
+    (host_stream_with_samples w interface samples old track whole own.0 own.1 appended)
 
 -- what `stream` answers for a sound function can be started
 pub stream_given : (function : FunctionFields) (rate interface setting : ℕ) (stream : Option Stream) → IsSoundFunction function

@@ -5,7 +5,7 @@ use Rattle.uac_clock.specs.Nominal.{values_of}
 use Rattle.uac_pcm.specs.declared.tones.Tone.TheVariants.{Ramp}
 use Rattle.uac_alt.specs.AltStreams.{StreamFields}
 use Rattle.uac_host.specs.HostWorld.{Track}
-use Rattle.uac_host.specs.Calls.{after_frames, within_nominal, next_frames, next_size, pace_after_packet, fresh_pace}
+use Rattle.uac_host.specs.HostCalls.{track_after_frames, within_nominal, next_frames, next_size, pace_after_packet, fresh_pace}
 
 -- one channel of 16 bits to the device, at 44,100 Hz and at 48,000 Hz
 mono : ℕ → ℕ → StreamFields
@@ -38,6 +38,6 @@ frames_at_the_join : next_frames 1 3 joined ≡ (pos 7 ∷ []) ∷ (pos 150 ∷ 
 unfolding next_frames joined int_wrap
 frames_at_the_join = refl
 
-after_the_join : after_frames 3 joined ≡ record joined { waiting = []; place = 7 }
-unfolding after_frames joined
+after_the_join : track_after_frames 3 joined ≡ record joined { waiting = []; place = 7 }
+unfolding track_after_frames joined
 after_the_join = refl

@@ -2,11 +2,11 @@
 use Rattle.std.specs.Prelude.{◌≡◌, ℕ, ◌%◌, ◌==◌, List, length, sum, Option, Some, None}
 use Rattle.std.specs.List.{All, find, flat_map}
 use Rattle.std.specs.Option.{option_map}
-use Rattle.uac_host.specs.declared.lanes.HostStream.{HostStream}
+use Rattle.uac_host.specs.declared.host_streams.HostStream.{HostStream}
 use Rattle.uac_host.specs.HostFields.{PaceFields, TrackFields}
 use Rattle.uac_host.specs.HostWorld.{HostWorld, Pace, Track, silent_track}
 use Rattle.uac_topology.specs.Function.{interface_in}
-use Rattle.uac_host.specs.Calls.{IsStreamOf, channels_at, within_nominal}
+use Rattle.uac_host.specs.HostCalls.{IsStreamOf, channels_at, within_nominal}
 
 -- how a stream is kept: the remainder of its rate values stands for them all
 abbrev pub kept_pace : Pace → PaceFields
@@ -20,27 +20,28 @@ kept_track t = record { samples = flat_map (λ frame. frame) t.waiting; tone = t
 abbrev pub kept_report : ℕ → PaceFields → PaceFields
 kept_report value p = record p { value = within_nominal p.stream value }
 
-abbrev pub kept_lane : HostWorld → ℕ → HostStream
-kept_lane w interface =
+abbrev pub kept_stream : HostWorld → ℕ → HostStream
+kept_stream w interface =
     record { interface = interface; pace = option_map kept_pace (w.paces interface); track = kept_track (w.tracks interface) }
 
--- the lane of an interface that runs no stream, and whose track is silent
-abbrev pub resting_lane : ℕ → HostStream
-resting_lane interface = record { interface = interface; pace = None; track = kept_track silent_track }
+-- what is kept of an interface that runs no stream, and whose track is silent
+abbrev pub resting_stream : ℕ → HostStream
+resting_stream interface = record { interface = interface; pace = None; track = kept_track silent_track }
 
--- a lane is kept of this world
-pub record IsKeptLane (w : HostWorld) (l : HostStream) : Type 0 where
-  pub lane : l ≡ kept_lane w l.interface
+-- a host stream is as this world has it
+pub record IsKeptStream (w : HostWorld) (l : HostStream) : Type 0 where
+  pub host_stream : l ≡ kept_stream w l.interface
   pub whole : All (λ frame. length frame ≡ channels_at w.function l.interface) (w.tracks l.interface).waiting
   pub streams : (p : Pace) → w.paces l.interface ≡ Some p → IsStreamOf w.function l.interface p.stream
 
--- the lane of an interface
-abbrev pub lane_on : List HostStream → ℕ → Option HostStream
-lane_on lanes interface = find (λ l. l.interface == interface) lanes
+-- the host stream of an interface
+abbrev pub stream_on : List HostStream → ℕ → Option HostStream
+stream_on host_streams interface = find (λ l. l.interface == interface) host_streams
 
--- the host stands for this world: there is a lane for each streaming interface; frames that wait have a sample for each channel of
+-- the host stands for this world: there is a host stream for each streaming interface; frames that wait have a sample for each channel of
 -- their terminal; and each stream that runs is one of its interface's
 pub record HostStands (host : List HostStream) (w : HostWorld) : Type 0 where
-  pub lanes : (interface : ℕ) → lane_on host interface ≡ option_map (λ s. kept_lane w interface) (interface_in w.function interface)
+  pub host_streams : (interface : ℕ)
+      → stream_on host interface ≡ option_map (λ s. kept_stream w interface) (interface_in w.function interface)
   pub whole : (interface : ℕ) → All (λ frame. length frame ≡ channels_at w.function interface) (w.tracks interface).waiting
   pub streams : (interface : ℕ) (p : Pace) → w.paces interface ≡ Some p → IsStreamOf w.function interface p.stream

@@ -6,11 +6,11 @@ ghost use Rattle.uac_topology.specs.Function.{FunctionFields};
 ghost use Rattle.uac_topology.specs.Topology.{IsSoundFunction};
 ghost use Rattle.uac_alt.specs.AltStreams.{stream_fields};
 ghost use Rattle.uac_host.specs.HostWorld.{HostWorld, fresh_host};
-ghost use Rattle.uac_host.specs.Calls.{AreWhole, IsStreamOf, after_packet, heard_in, packet_of, size_of};
-ghost use Rattle.uac_host.specs.Calls.{with_report, with_samples, with_stream, with_tone};
+ghost use Rattle.uac_host.specs.HostCalls.{AreWhole, IsStreamOf, after_host_packet, heard_in, packet_of, size_of};
+ghost use Rattle.uac_host.specs.HostCalls.{with_report, with_samples, with_stream, with_track_tone};
 ghost use Rattle.uac_host.specs.HostKept.{HostStands};
 
-use crate::lanes::HostStream;
+use crate::host_streams::HostStream;
 use std::alloc::Global;
 use std::marker::Model;
 use uac_alt::Stream;
@@ -22,16 +22,16 @@ use uac_topology::laws::settings_are_in_range;
 /// The host of an audio function: for each streaming interface the stream that it runs, and the track from which it sends.
 #[derive(Drop)]
 pub struct Host {
-    lanes: Vec<HostStream>,
+    host_streams: Vec<HostStream>,
 }
 
 impl Model for Host {
     ghost use Rattle.std.specs.Prelude.{List};
-    ghost use Rattle.uac_host.specs.declared.lanes.HostStream.{HostStream};
+    ghost use Rattle.uac_host.specs.declared.host_streams.HostStream.{HostStream};
 
     ghost Value = { List HostStream };
 
-    ghost view = { λ h. h.lanes.items };
+    ghost view = { λ h. h.host_streams.items };
 }
 
 impl Host {
@@ -39,11 +39,11 @@ impl Host {
     pub fn new(alloc: Global, function: &Function) -> Result<Host, NoMemory>
         ensures { IfOk result (λ host. HostStands host (fresh_host function.now)) }
     {
-        let mut lanes = Vec::new(alloc);
+        let mut host_streams = Vec::new(alloc);
         for stream in function.streams() {
-            lanes.push(HostStream::resting(alloc, stream.number))?;
+            host_streams.push(HostStream::resting(alloc, stream.number))?;
         }
-        Ok(Host { lanes })
+        Ok(Host { host_streams })
     }
 
     /// An interface starts a stream anew, at its nominal rate and a whole frame, or runs none from now on. Its track stays. A stream that
@@ -56,7 +56,7 @@ impl Host {
     {
         settings_are_in_range();
         match self.place(interface) {
-            Some(place) => self.lanes[place].run(stream),
+            Some(place) => self.host_streams[place].run(stream),
             None => {}
         }
     }
@@ -69,17 +69,17 @@ impl Host {
         ensures unchanged { OnErr result (self.new ≡ self.old) }
     {
         match self.place(interface) {
-            Some(place) => self.lanes[place].track.append(samples),
+            Some(place) => self.host_streams[place].track.append(samples),
             None => Ok(()),
         }
     }
 
     /// A tone follows the frames that wait on an interface, from its first frame.
     pub fn track(&mut self, interface: u8, tone: Tone)
-        ensures stands { (w : HostWorld) → HostStands self.old w → HostStands self.new (with_tone interface tone w) }
+        ensures stands { (w : HostWorld) → HostStands self.old w → HostStands self.new (with_track_tone interface tone w) }
     {
         match self.place(interface) {
-            Some(place) => self.lanes[place].track.play(tone),
+            Some(place) => self.host_streams[place].track.play(tone),
             None => {}
         }
     }
@@ -90,10 +90,10 @@ impl Host {
     pub fn packet(&mut self, interface: u8, packet: &mut Packet) -> u32
         ensures size { (w : HostWorld) → HostStands self.old w → result ≡ size_of w interface }
         ensures packet { (w : HostWorld) → HostStands self.old w → packet.new.items ≡ packet_of w interface }
-        ensures stands { (w : HostWorld) → HostStands self.old w → HostStands self.new (after_packet interface w) }
+        ensures stands { (w : HostWorld) → HostStands self.old w → HostStands self.new (after_host_packet interface w) }
     {
         match self.place(interface) {
-            Some(place) => self.lanes[place].send(packet),
+            Some(place) => self.host_streams[place].send(packet),
             None => {
                 packet.clear();
                 0
@@ -106,7 +106,7 @@ impl Host {
         ensures stands { (w : HostWorld) → HostStands self.old w → HostStands self.new (with_report interface value w) }
     {
         match self.place(interface) {
-            Some(place) => self.lanes[place].report(value),
+            Some(place) => self.host_streams[place].report(value),
             None => {}
         }
     }
@@ -120,17 +120,17 @@ impl Host {
         ensures unchanged { OnFalse result (frame.new ≡ frame.old) }
     {
         match self.place(interface) {
-            Some(place) => self.lanes[place].hear(packet, at, frame),
+            Some(place) => self.host_streams[place].hear(packet, at, frame),
             None => false,
         }
     }
 
-    // The index of an interface's lane.
+    // The index of an interface's host stream.
     fn place(&self, interface: u8) -> Option<usize>
         ensures { result ≡ position (λ l. l.interface == interface) self.now }
     {
-        self.lanes
+        self.host_streams
             .iter()
-            .position(|lane| lane.interface == interface)
+            .position(|host_stream| host_stream.interface == interface)
     }
 }

@@ -4,11 +4,11 @@
 /// The host and its calls.
 mod host;
 /// What it keeps for an interface.
-mod lanes;
+mod host_streams;
 /// How a running stream is sent.
 mod paces;
 /// What waits to be sent.
 mod tracks;
 
 pub use host::Host;
-pub use lanes::HostStream;
+pub use host_streams::HostStream;

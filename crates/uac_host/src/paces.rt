@@ -2,7 +2,7 @@
 ghost use Rattle.std.specs.Prelude.{◌≡◌, ◌≤◌, ◌<◌, ◌+◌, ◌*◌, ◌/◌, ◌%◌};
 ghost use Rattle.uac_pcm.specs.Frames.{IsFormat};
 ghost use Rattle.uac_alt.specs.AltStreams.{stream_fields};
-ghost use Rattle.uac_host.specs.Calls as spec;
+ghost use Rattle.uac_host.specs.HostCalls as spec;
 ghost use Rattle.uac_host.specs.HostFields.{IsRunnable};
 
 use std::marker::Model;

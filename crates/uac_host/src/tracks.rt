@@ -5,7 +5,7 @@ ghost use Rattle.arrayvec.specs.ArrayVec.{array_vec_len};
 ghost use Rattle.uac_pcm.specs.Packets.{bytes_of_frames};
 ghost use Rattle.std.specs.VecDeque.{deque_capacity};
 ghost use Rattle.uac_host.specs.HostWorld as world;
-ghost use Rattle.uac_host.specs.Calls.{after_frames, next_frames};
+ghost use Rattle.uac_host.specs.HostCalls.{track_after_frames, next_frames};
 ghost use Rattle.uac_host.specs.HostKept.{kept_track};
 
 use arrayvec::ArrayVec;
@@ -67,7 +67,7 @@ impl Track {
         requires { 1 ≤ array_vec_len frame.old }
         ensures channels { array_vec_len frame.new ≡ array_vec_len frame.old }
         ensures stands { (t : world.Track) → All (λ f. length f ≡ array_vec_len frame.old) t.waiting → self.old ≡ kept_track t
-            → (next_frames (array_vec_len frame.old) 1 t ≡ frame.new.items ∷ []) × (self.new ≡ kept_track (after_frames 1 t)) }
+            → (next_frames (array_vec_len frame.old) 1 t ≡ frame.new.items ∷ []) × (self.new ≡ kept_track (track_after_frames 1 t)) }
     {
         if self.samples.len() < frame.len() {
             self.tone.write(u64::from(self.place), frame.as_mut_slice());
@@ -82,7 +82,7 @@ impl Track {
         requires { frames * (format.now.channels * format.now.subslot) ≤ 3072 }
         ensures stands { (t : world.Track) → All (λ frame. length frame ≡ format.now.channels) t.waiting → self.old ≡ kept_track t
             → (packet.new.items ≡ bytes_of_frames format.now.subslot format.now.bits (next_frames format.now.channels frames t))
-            × (self.new ≡ kept_track (after_frames frames t)) }
+            × (self.new ≡ kept_track (track_after_frames frames t)) }
     {
         let size = format.frame_bytes();
         resize(packet, frames as usize * size);

@@ -15,7 +15,7 @@ use Rattle.uac_store.proofs.Setting.{key_laws}
 use Rattle.uac_request.specs.Requests.{AnswerFields, key_named, low}
 use Rattle.uac_request.specs.declared.setup.Setup.{Setup}
 use Rattle.uac_mixer.specs.declared.element.Element.{Element}
-use Rattle.uac_mixer.specs.MixerElements.{control_elements, element_on, entity_elements, element_list, unread}
+use Rattle.uac_mixer.specs.MixerElements.{control_elements, element_on, entity_elements, element_list, with_no_value}
 use Rattle.uac_mixer.specs.Readable.{is_for_any}
 use Rattle.uac_mixer.specs.ViewTransfers.{after_get, after_set, element_after, gets, is_for, sets, value_after, view_after}
 use Rattle.uac_mixer.specs.ViewWorld.{IsViewOf, ViewWorld}
@@ -138,7 +138,7 @@ all_apart entities distinct =
 pub viewed_apart : (entities : List Entity) (view : ViewWorld) → IsDistinct nat_eq (map (λ e. e.id) entities) → IsViewOf entities view
     → IsDistinct share_key view.elements
 viewed_apart entities view distinct is =
-    apart_unmapped share_key unread view.elements (subst (IsDistinct share_key) (sym is) (all_apart entities distinct))
+    apart_unmapped share_key with_no_value view.elements (subst (IsDistinct share_key) (sym is) (all_apart entities distinct))
 
 -- ---- what a request leaves
 

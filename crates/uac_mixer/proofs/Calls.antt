@@ -14,7 +14,7 @@ use Rattle.uac_request.specs.declared.setup.Setup.{Setup}
 use Rattle.uac_request.proofs.Asked.{first_cur}
 use Rattle.uac_mixer.specs.declared.element.Element.{Element}
 use Rattle.uac_mixer.specs.MixerElements.{fits_element, width_of}
-use Rattle.uac_mixer.specs.ViewTransfers.{after_get, after_set, element_after, get_of, gets, is_for, set_of, sets, setup_of, value_after, value_in, view_after}
+use Rattle.uac_mixer.specs.ViewTransfers.{after_get, after_set, element_after, get_of, gets, is_for, set_of, sets, element_setup, value_after, value_in, view_after}
 use Rattle.uac_mixer.specs.ViewWorld.{ViewWorld}
 use Rattle.uac_mixer.proofs.ValueBytes.{comes_back, whole}
 use Rattle.uac_mixer.proofs.MixerElementsLemmas.{Agrees, agrees}
@@ -37,7 +37,7 @@ high_of a b below = omega arith
 low_of : (a b : ℕ) → b < 256 → (256 * a + b) % 256 ≡ b
 low_of a b below = omega arith
 
-key_back : (type control : ℕ) (x : Element) → IsNarrow control x → key_named (setup_of type control x) ≡ x.key
+key_back : (type control : ℕ) (x : Element) → IsNarrow control x → key_named (element_setup type control x) ≡ x.key
 key_back type control x n =
     let i = high_of x.key.entity control n.interface in
     let j = high_of x.key.selector x.key.channel n.channel in
@@ -45,18 +45,18 @@ key_back type control x n =
     λ p. record { entity = i p; selector = j p; channel = m p }
 
 -- it is a request for the element
-pub is_for_it : (type control : ℕ) (x : Element) → IsNarrow control x → is_for type control (setup_of type control x) x ≡ true
+pub is_for_it : (type control : ℕ) (x : Element) → IsNarrow control x → is_for type control (element_setup type control x) x ≡ true
 unfolding is_for
 is_for_it type control x n =
-    all_four (type == type) (1 == 1) ((256 * x.key.entity + control) % 256 == control) (same_key x.key (key_named (setup_of type control x)))
-    (eq-eqb type type refl) refl (eq-eqb ((256 * x.key.entity + control) % 256) control (low_of x.key.entity control n.interface)) (same_keys x.key (key_named (setup_of type control x)) (sym (key_back type control x n)))
+    all_four (type == type) (1 == 1) ((256 * x.key.entity + control) % 256 == control) (same_key x.key (key_named (element_setup type control x)))
+    (eq-eqb type type refl) refl (eq-eqb ((256 * x.key.entity + control) % 256) control (low_of x.key.entity control n.interface)) (same_keys x.key (key_named (element_setup type control x)) (sym (key_back type control x n)))
 
 -- one element stands at an index
 pub one_element : (xs : List Element) (at : ℕ) (x y : Element) → slice_get xs at ≡ Some y → slice_get xs at ≡ Some x → y ≡ x
 one_element xs at x y a b = (let same : Some y ≡ Some x = sym a ∙ b in cc)
 
 -- the request names its key
-pub names_it : (type control : ℕ) (setup : Setup) (xs : List Element) (at : ℕ) (y : Element) → setup ≡ setup_of type control y
+pub names_it : (type control : ℕ) (setup : Setup) (xs : List Element) (at : ℕ) (y : Element) → setup ≡ element_setup type control y
     → IsNarrow control y → slice_get xs at ≡ Some y
     → (x : Element) → slice_get xs at ≡ Some x → x.key ≡ key_named setup
 names_it type control setup xs at y is n there x at_x =
@@ -104,9 +104,9 @@ module _ (f : FunctionFields) (h : RequestState) (x : Element) (store : IsStoreO
   abbrev pub own_value : IsHeldAs f.entities h.controls x
   own_value = held_as f.entities h.controls x store m
 
-  its_owner : (type : ℕ) → owner_of f (setup_of type f.control_interface x).index ≡ Some (by_entity m.entity)
+  its_owner : (type : ℕ) → owner_of f (element_setup type f.control_interface x).index ≡ Some (by_entity m.entity)
   its_owner type =
-      owner_is f (setup_of type f.control_interface x).index m.entity
+      owner_is f (element_setup type f.control_interface x).index m.entity
       (eq-eqb ((256 * x.key.entity + f.control_interface) % 256) f.control_interface (low_of x.key.entity f.control_interface n.interface))
       (ap (entity_by_id f.entities) (high_of x.key.entity f.control_interface n.interface) ∙ m.found)
 

@@ -12,7 +12,7 @@ use Rattle.uac_device.specs.DeviceKept.{DeviceFields, IsControlled}
 use Rattle.uac_mixer.specs.declared.link.When.{When}
 use Rattle.uac_mixer.specs.declared.link.When.TheVariants as when
 use Rattle.uac_mixer.specs.declared.element.Element.{Element}
-use Rattle.uac_mixer.specs.MixerElements.{unread}
+use Rattle.uac_mixer.specs.MixerElements.{with_no_value}
 use Rattle.uac_mixer.specs.ViewLinks.{BreaksAs, IsAnswered, IsTransferred, LinkFields}
 use Rattle.uac_mixer.specs.ViewTransfers.{element_after, view_after}
 use Rattle.uac_mixer.specs.ViewWorld.{IsViewOf, ViewWorld}
@@ -71,9 +71,9 @@ agreed_after p sent came old new view (inr (told, acted, (inr some))) store are 
     (agreement old.function (kept_by old) p sent view store are agreed).answered)
 
 -- the view is still of the function
-still_of : (control : ℕ) (p : Setup) (sent : List ℕ) (came : Option AnswerFields) (xs : List Element) → map unread (map (element_after control p sent came) xs) ≡ map unread xs
+still_of : (control : ℕ) (p : Setup) (sent : List ℕ) (came : Option AnswerFields) (xs : List Element) → map with_no_value (map (element_after control p sent came) xs) ≡ map with_no_value xs
 still_of control p sent came [] = refl
-still_of control p sent came (x ∷ xs) = ap (λ ys. unread x ∷ ys) (still_of control p sent came xs)
+still_of control p sent came (x ∷ xs) = ap (λ ys. with_no_value x ∷ ys) (still_of control p sent came xs)
 
 pub viewed : (control : ℕ) (p : Setup) (sent : List ℕ) (came : Option AnswerFields) (entities : List Entity) (view : ViewWorld) → IsViewOf entities view → IsViewOf entities (view_after control p sent came view)
 unfolding view_after

@@ -12,7 +12,7 @@ use Rattle.uac_store.specs.Keyed.{key_of}
 use Rattle.uac_request.specs.Requests.{is_declared_on, is_writable_on}
 use Rattle.uac_mixer.specs.declared.kinds.ElementKind.{ElementKind}
 use Rattle.uac_mixer.specs.declared.element.Element.{Element}
-use Rattle.uac_mixer.specs.MixerElements.{control_elements, element_on, entity_elements, kind_at, element_list, unread}
+use Rattle.uac_mixer.specs.MixerElements.{control_elements, element_on, entity_elements, kind_at, element_list, with_no_value}
 use Rattle.uac_mixer.specs.ViewWorld.{IsViewOf, ViewWorld}
 
 -- a declared control of these entities
@@ -153,14 +153,14 @@ none_read entities =
     (λ e. in_entity (λ (x : Element). x.value ≡ None) entities e (λ s c y below is. as_listed (λ (x : Element). x.value ≡ None) e s c y (λ k. refl) is)))
 
 -- an element is what it is, read or not
-as_read : (entities : List Entity) (x : Element) → IsElementOf entities (unread x) → IsElementOf entities x
+as_read : (entities : List Entity) (x : Element) → IsElementOf entities (with_no_value x) → IsElementOf entities x
 as_read entities x is = record { entity = is.entity; found = is.found; shows = is.shows; channel = is.channel; declared = is.declared }
 
 pub members : (entities : List Entity) (view : ViewWorld) → IsDistinct nat_eq (map (λ e. e.id) entities) → IsViewOf entities view → All (IsElementOf entities) view.elements
 members entities view distinct is =
     All-from_recursion (IsElementOf entities) view.elements
-    (weaker (λ x. IsElementOf entities (unread x)) (IsElementOf entities) view.elements (as_read entities)
-    (unmapped (IsElementOf entities) unread view.elements
+    (weaker (λ x. IsElementOf entities (with_no_value x)) (IsElementOf entities) view.elements (as_read entities)
+    (unmapped (IsElementOf entities) with_no_value view.elements
     (subst (λ xs. AllByRecursion (IsElementOf entities) xs) (sym is) (all_listed entities distinct))))
 
 -- ---- listing

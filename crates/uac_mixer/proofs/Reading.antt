@@ -15,7 +15,7 @@ use Rattle.uac_device.specs.DeviceKept.{DeviceFields, IsControlled}
 use Rattle.uac_mixer.specs.declared.element.Element.{Element}
 use Rattle.uac_mixer.specs.declared.link.When.{When}
 use Rattle.uac_mixer.specs.declared.link.When.TheVariants as when
-use Rattle.uac_mixer.specs.MixerElements.{element_list, unread, width_of}
+use Rattle.uac_mixer.specs.MixerElements.{element_list, with_no_value, width_of}
 use Rattle.uac_mixer.specs.ViewLinks.{AreAsked, BreaksAs, IsAsBefore, IsTransferred, LinkFields}
 use Rattle.uac_mixer.specs.ViewTransfers.{after_get, after_set, element_after, get_of, gets, value_after, value_in, view_after}
 use Rattle.uac_mixer.specs.ViewWorld.{IsViewOf, ViewWorld, known_view, read_from}
@@ -40,11 +40,11 @@ one_more control [] x told a b c is acted = (c, told, subst (λ (d : DeviceField
 one_more control (y ∷ ys) x told a b c is acted = (is.0, is.1, is.2, one_more control ys x told is.0 b c is.3 acted)
 
 -- the element at an index, as it is listed
-listed_at : (entities : List Entity) (view : ViewWorld) (at : ℕ) (x : Element) → IsViewOf entities view → slice_get view.elements at ≡ Some x → take (at + 1) (element_list entities) ≡ take at (element_list entities) ++ unread x ∷ []
+listed_at : (entities : List Entity) (view : ViewWorld) (at : ℕ) (x : Element) → IsViewOf entities view → slice_get view.elements at ≡ Some x → take (at + 1) (element_list entities) ≡ take at (element_list entities) ++ with_no_value x ∷ []
 listed_at entities view at x is there =
-    let mapped : slice_get (element_list entities) at ≡ Some (unread x) = ap (λ (xs : List Element). slice_get xs at) (sym is) ∙ slice_get-map unread view.elements at ∙ ap (option_map unread) there in
-    let within : at < length (element_list entities) = slice_get_within (element_list entities) at (unread x) mapped in
-    take_more (element_list entities) at (unread x) within ∙ ap (λ (y : Element). take at (element_list entities) ++ y ∷ []) (get_or_from_slice_get (element_list entities) at (unread x) (unread x) mapped)
+    let mapped : slice_get (element_list entities) at ≡ Some (with_no_value x) = ap (λ (xs : List Element). slice_get xs at) (sym is) ∙ slice_get-map with_no_value view.elements at ∙ ap (option_map with_no_value) there in
+    let within : at < length (element_list entities) = slice_get_within (element_list entities) at (with_no_value x) mapped in
+    take_more (element_list entities) at (with_no_value x) within ∙ ap (λ (y : Element). take at (element_list entities) ++ y ∷ []) (get_or_from_slice_get (element_list entities) at (with_no_value x) (with_no_value x) mapped)
 
 -- ---- what is known
 
@@ -106,7 +106,7 @@ read_more at x v now after old between new so there made kept still =
             let some : z.value ≡ Some v = cc in subst IsSome (sym some) refl)
       ];
       asked = subst (λ (xs : List Element). AreAsked control xs old.device new.device) (sym (listed_at old.device.function.entities now at x so.of there))
-          (one_more control (take at (element_list old.device.function.entities)) (unread x) told old.device between.device new.device so.asked own.transfer.answered.device);
+          (one_more control (take at (element_list old.device.function.entities)) (with_no_value x) told old.device between.device new.device so.asked own.transfer.answered.device);
       before = same_controls old.device between.device new.device so.before still;
       never_falls = (let more = made.transfer.never_falls in let first = so.never_falls in omega arith);
       told = λ none. none_told between.device.function.control_interface x (Some told) between new made.transfer (so.told none);
@@ -151,7 +151,7 @@ read_broke at x now after old between new so made still =
 unread_agrees : (controls : List (Key × ℤ)) (view : ViewWorld) → All (λ (x : Element). x.value ≡ None) view.elements → IsAgreed controls view
 unread_agrees controls view none = λ k d below. subst (λ (o : Option ℤ). IfSome o (λ v. value_of controls (slice_index_or view.elements k d).key ≡ Some v)) (sym (none k d below)) tt
 
-unread_alone : (xs : List Element) → AllByRecursion (λ (x : Element). x.value ≡ None) xs → map unread xs ≡ xs
+unread_alone : (xs : List Element) → AllByRecursion (λ (x : Element). x.value ≡ None) xs → map with_no_value xs ≡ xs
 unread_alone [] none = refl
 unread_alone (x ∷ xs) none = (λ j. record x { value = sym none.0 j } ∷ unread_alone xs none.1 j)
 
@@ -177,15 +177,15 @@ element_there (x ∷ xs) (suc at) below = element_there xs at (omega arith)
 
 -- the view has as many elements as at the start
 pub as_long : (at : ℕ) (first now : ViewWorld) (old new : LinkFields) → HaveRead at now old new → first.elements ≡ element_list old.device.function.entities → length now.elements ≡ length first.elements
-as_long at first now old new so is = sym (length-map now.elements unread) ∙ ap length so.of ∙ ap length (sym is)
+as_long at first now old new so is = sym (length-map now.elements with_no_value) ∙ ap length so.of ∙ ap length (sym is)
 
-each_read : (controls : List (Key × ℤ)) (x : Element) → IsSome x.value → IfSome x.value (λ v. value_of controls x.key ≡ Some v) → read_from controls (unread x) ≡ x
+each_read : (controls : List (Key × ℤ)) (x : Element) → IsSome x.value → IfSome x.value (λ v. value_of controls x.key ≡ Some v) → read_from controls (with_no_value x) ≡ x
 each_read controls x some agreed = (λ j. record x { value = from x.value some agreed j }) where
   from : (o : Option ℤ) → IsSome o → IfSome o (λ v. value_of controls x.key ≡ Some v) → value_of controls x.key ≡ o
   from None some agreed = cc
   from (Some v) some agreed = agreed
 
-all_read : (controls : List (Key × ℤ)) (xs : List Element) → AllByRecursion (λ x. read_from controls (unread x) ≡ x) xs → map (read_from controls) (map unread xs) ≡ xs
+all_read : (controls : List (Key × ℤ)) (xs : List Element) → AllByRecursion (λ x. read_from controls (with_no_value x) ≡ x) xs → map (read_from controls) (map with_no_value xs) ≡ xs
 all_read controls [] all = refl
 all_read controls (x ∷ xs) all = (λ j. all.0 j ∷ all_read controls xs all.1 j)
 
@@ -197,11 +197,11 @@ pub record HasFinished (now : ViewWorld) (old new : LinkFields) : Type 0 where
 pub read_whole : (at : ℕ) (now : ViewWorld) (old new : LinkFields) → HaveRead at now old new → length now.elements ≤ at → HasFinished now old new
 unfolding known_view
 read_whole at now old new so past =
-    let each : All (λ (x : Element). read_from old.device.controls (unread x) ≡ x) now.elements =
+    let each : All (λ (x : Element). read_from old.device.controls (with_no_value x) ≡ x) now.elements =
     (λ k d below. each_read old.device.controls (slice_index_or now.elements k d) (so.known k (slice_index_or now.elements k d) (omega arith) (slice_get-get_or now.elements k d below)) (so.agreed k d below)) in
     let elements : now.elements ≡ map (read_from old.device.controls) (element_list old.device.function.entities) =
-    sym (all_read old.device.controls now.elements (recursion_from_All (λ (x : Element). read_from old.device.controls (unread x) ≡ x) now.elements each)) ∙ ap (map (read_from old.device.controls)) so.of in
-    let long : length (element_list old.device.function.entities) ≤ at = subst (λ (xs : List Element). length xs ≤ at) so.of (let l = length-map now.elements unread in omega arith) in
+    sym (all_read old.device.controls now.elements (recursion_from_All (λ (x : Element). read_from old.device.controls (with_no_value x) ≡ x) now.elements each)) ∙ ap (map (read_from old.device.controls)) so.of in
+    let long : length (element_list old.device.function.entities) ≤ at = subst (λ (xs : List Element). length xs ≤ at) so.of (let l = length-map now.elements with_no_value in omega arith) in
     let whole : AreAsked old.device.function.control_interface (element_list old.device.function.entities) old.device new.device =
     subst (λ (xs : List Element). AreAsked old.device.function.control_interface xs old.device new.device) (take_all at (element_list old.device.function.entities) long) so.asked in
     record {

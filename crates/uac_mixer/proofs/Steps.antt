@@ -13,7 +13,7 @@ use Rattle.uac_mixer.specs.MixerElements.{fits_element, width_of}
 use Rattle.uac_mixer.specs.ViewLinks.{IsAsBefore, IsTransferred, LinkFields}
 use Rattle.uac_mixer.specs.declared.faults.SetFault.{SetFault}
 use Rattle.uac_mixer.specs.declared.faults.SetFault.TheVariants as refusals
-use Rattle.uac_mixer.specs.ViewTransfers.{came_of_set, element_after, get_of, set_of, setup_of, value_after, view_after}
+use Rattle.uac_mixer.specs.ViewTransfers.{came_of_set, element_after, get_of, set_of, element_setup, value_after, view_after}
 use Rattle.uac_mixer.specs.ViewWorld.{IsViewOf, ViewWorld}
 use Rattle.uac_mixer.specs.Agreement.{IsMade}
 use Rattle.uac_mixer.proofs.MixerElementsLemmas.{narrow}
@@ -118,10 +118,10 @@ set_still x sent rule before after old new made = made.view ∙ set_stalled old.
 
 -- ---- as the calls have it
 
-setup_made : (type control : ℕ) (setup : Setup) (y : Element) (sent : List ℕ) (came : Option AnswerFields) (before after : ViewWorld) (old new : LinkFields) → setup ≡ setup_of type control y
-    → control ≡ old.device.function.control_interface → IsMade setup sent came before after old new → IsMade (setup_of type old.device.function.control_interface y) sent came before after old new
+setup_made : (type control : ℕ) (setup : Setup) (y : Element) (sent : List ℕ) (came : Option AnswerFields) (before after : ViewWorld) (old new : LinkFields) → setup ≡ element_setup type control y
+    → control ≡ old.device.function.control_interface → IsMade setup sent came before after old new → IsMade (element_setup type old.device.function.control_interface y) sent came before after old new
 setup_made type control setup y sent came before after old new is on made =
-    subst (λ (p : Setup). IsMade p sent came before after old new) (is ∙ ap (λ (i : ℕ). setup_of type i y) on) made
+    subst (λ (p : Setup). IsMade p sent came before after old new) (is ∙ ap (λ (i : ℕ). element_setup type i y) on) made
 
 -- what a get owes where the link didn't break
 pub record GetDone (at : ℕ) (r : ℤ) (before after : ViewWorld) (old new : LinkFields) : Type 0 where
@@ -129,7 +129,7 @@ pub record GetDone (at : ℕ) (r : ℤ) (before after : ViewWorld) (old new : Li
   pub value : (x : Element) → slice_get before.elements at ≡ Some x → value_of old.device.controls x.key ≡ Some r
   pub as_before : IsAsBefore old.device new.device
 
-module _ (control : ℕ) (setup : Setup) (y : Element) (at : ℕ) (before after : ViewWorld) (old new : LinkFields) (is : setup ≡ setup_of 161 control y) (on : control ≡ old.device.function.control_interface)
+module _ (control : ℕ) (setup : Setup) (y : Element) (at : ℕ) (before after : ViewWorld) (old new : LinkFields) (is : setup ≡ element_setup 161 control y) (on : control ≡ old.device.function.control_interface)
     (keys : IsKeyed old.device.function.entities) (store : IsStoreOf old.device.function.entities old.device.controls) (of : IsViewOf old.device.function.entities before) (there : slice_get before.elements at ≡ Some y)
     (n : IsNarrow old.device.function.control_interface y) where
   get_step : (came : Option AnswerFields) → IsMade setup [] came before after old new → IsMade (get_of old.device.function.control_interface y) [] came before after old new
@@ -178,7 +178,7 @@ on_ok : (P : Type 0) (r : Result (Unit {0}) SetFault) → (came_of_set r ≡ Som
 on_ok P (Ok u) h = h refl
 on_ok P (Err e) h = tt
 
-module _ (control : ℕ) (setup : Setup) (y : Element) (at : ℕ) (v : ℤ) (sent : List ℕ) (before after : ViewWorld) (old new : LinkFields) (is : setup ≡ setup_of 33 control y) (on : control ≡ old.device.function.control_interface)
+module _ (control : ℕ) (setup : Setup) (y : Element) (at : ℕ) (v : ℤ) (sent : List ℕ) (before after : ViewWorld) (old new : LinkFields) (is : setup ≡ element_setup 33 control y) (on : control ≡ old.device.function.control_interface)
     (bytes : sent ≡ value_bytes (width_of y.kind) v) (there : slice_get before.elements at ≡ Some y) (n : IsNarrow old.device.function.control_interface y) (fits : fits_element y.kind v ≡ true) where
   set_step : (came : Option AnswerFields) → IsMade setup sent came before after old new → IsMade (set_of old.device.function.control_interface y) (value_bytes (width_of y.kind) v) came before after old new
   set_step came made =

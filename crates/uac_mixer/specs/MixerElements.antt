@@ -69,26 +69,26 @@ unfoldable pub element_list : List Entity → List Element
 element_list entities = flat_map (entity_elements entities) entities
 
 -- an element whose value isn't known
-abbrev pub unread : Element → Element
-unread x = record x { value = None }
+abbrev pub with_no_value : Element → Element
+with_no_value x = record x { value = None }
 
 -- ---- names
 
 -- what the name of an element begins with (profile)
-abbrev pub kind_word : ElementKind → List ℕ
-kind_word shown.Rate = codes "rate"
-kind_word shown.Clock = codes "clock"
-kind_word shown.Times = codes "times"
-kind_word shown.Over = codes "over"
-kind_word shown.Mix = codes "mix"
-kind_word shown.Select = codes "select"
-kind_word shown.Mute = codes "mute"
-kind_word shown.Volume = codes "volume"
-kind_word shown.Enable = codes "enable"
+abbrev pub kind_name : ElementKind → List ℕ
+kind_name shown.Rate = codes "rate"
+kind_name shown.Clock = codes "clock"
+kind_name shown.Times = codes "times"
+kind_name shown.Over = codes "over"
+kind_name shown.Mix = codes "mix"
+kind_name shown.Select = codes "select"
+kind_name shown.Mute = codes "mute"
+kind_name shown.Volume = codes "volume"
+kind_name shown.Enable = codes "enable"
 
 -- the name: its kind, its entity and its channel, with dots between (profile), as `volume.3.1`
 unfoldable pub name_of : Element → List ℕ
-name_of x = kind_word x.kind ++ codes "." ++ decimal x.key.entity ++ codes "." ++ decimal x.key.channel
+name_of x = kind_name x.kind ++ codes "." ++ decimal x.key.entity ++ codes "." ++ decimal x.key.channel
 
 -- ---- values
 

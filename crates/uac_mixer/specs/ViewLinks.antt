@@ -40,16 +40,17 @@ IsAnswered p sent (Some told) old new = HasActed p sent told old new
 IsAnswered p sent None old new = (old.breaks < new.breaks) × ((at : When) × BreaksAs at p sent old new)
 
 -- where the link tells the fault of the transfer, it breaks exactly by that, and no fault is told after it
-pub record IsAsTold (fault : Option When) (p : Setup) (sent : List ℕ) (came : Option AnswerFields) (old new : LinkFields) : Type 0 where
-  pub breaks : (came ≡ None) ↔ IsSome fault
-  pub at : (w : When) → fault ≡ Some w → BreaksAs w p sent old new
-  pub over : new.fault ≡ Some None
+pub record BreaksAsFaultSays (fault : Option When) (p : Setup) (sent : List ℕ) (came : Option AnswerFields) (old new : LinkFields) : Type 0
+  where
+    pub breaks : (came ≡ None) ↔ IsSome fault
+    pub at : (w : When) → fault ≡ Some w → BreaksAs w p sent old new
+    pub over : new.fault ≡ Some None
 
 -- one transfer through a link
 pub record IsTransferred (p : Setup) (sent : List ℕ) (came : Option AnswerFields) (old new : LinkFields) : Type 0 where
   pub never_falls : old.breaks ≤ new.breaks
   pub answered : IsAnswered p sent came old new
-  pub told : (fault : Option When) → old.fault ≡ Some fault → IsAsTold fault p sent came old new
+  pub told : (fault : Option When) → old.fault ≡ Some fault → BreaksAsFaultSays fault p sent came old new
 
 -- the device answered the GET CUR of each of these elements in turn
 abbrev pub AreAsked : ℕ → List Element → DeviceFields → DeviceFields → Type 0

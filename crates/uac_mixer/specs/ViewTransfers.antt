@@ -14,8 +14,8 @@ use Rattle.uac_mixer.specs.ViewWorld.{ViewWorld}
 
 -- a request for an element's control: selector and channel in wValue, the entity and the control interface, which has this number, in
 -- wIndex, and all bytes of the control
-abbrev pub setup_of : ℕ → ℕ → Element → Setup
-setup_of type control x =
+abbrev pub element_setup : ℕ → ℕ → Element → Setup
+element_setup type control x =
     record {
       request_type = type;
       request = 1;
@@ -26,10 +26,10 @@ setup_of type control x =
 
 -- GET CUR and SET CUR of an element
 abbrev pub get_of : ℕ → Element → Setup
-get_of control x = setup_of 161 control x
+get_of control x = element_setup 161 control x
 
 abbrev pub set_of : ℕ → Element → Setup
-set_of control x = setup_of 33 control x
+set_of control x = element_setup 33 control x
 
 -- a transfer is a request of this type for the current value of an element
 unfoldable pub is_for : ℕ → ℕ → Setup → Element → Bool

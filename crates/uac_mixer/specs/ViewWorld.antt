@@ -4,7 +4,7 @@ use Rattle.uac_entities.specs.declared.entity.Entity.{Entity}
 use Rattle.uac_store.specs.declared.keys.Key.{Key}
 use Rattle.uac_store.specs.Keyed.{value_of}
 use Rattle.uac_mixer.specs.declared.element.Element.{Element}
-use Rattle.uac_mixer.specs.MixerElements.{element_list, unread}
+use Rattle.uac_mixer.specs.MixerElements.{element_list, with_no_value}
 
 -- the view: the elements of the device's function, each with its value, or none where that is unknown
 pub record ViewWorld : Type 0 where
@@ -20,4 +20,4 @@ known_view entities controls = record { elements = map (read_from controls) (ele
 
 -- the view's elements are those of these entities
 abbrev pub IsViewOf : List Entity → ViewWorld → Type 0
-IsViewOf entities view = map unread view.elements ≡ element_list entities
+IsViewOf entities view = map with_no_value view.elements ≡ element_list entities

@@ -43,7 +43,7 @@ impl Element {
         let mut name = ElementName {
             bytes: ArrayVec::new(),
         };
-        name.push(self.kind.word());
+        name.push(self.kind.kind_name());
         name.push(b".");
         name.push_number(self.key.entity);
         name.push(b".");

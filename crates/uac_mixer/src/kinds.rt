@@ -30,8 +30,8 @@ pub enum ElementKind {
 
 impl ElementKind {
     /// The word that names begin with.
-    pub fn word(self) -> &'static [u8]
-        ensures text { result.now ≡ spec.kind_word self }
+    pub fn kind_name(self) -> &'static [u8]
+        ensures text { result.now ≡ spec.kind_name self }
         ensures short { length result.now ≤ 6 }
     {
         match self {

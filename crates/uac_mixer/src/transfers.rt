@@ -25,8 +25,8 @@ pub(crate) const GET: u8 = 0xA1;
 const CUR: u8 = 0x01;
 
 /// A request for the current value of an element, on the control interface with this number.
-pub(crate) fn setup_of(request_type: u8, control: u8, element: Element) -> Setup
-    ensures { result ≡ spec.setup_of request_type control element }
+pub(crate) fn element_setup(request_type: u8, control: u8, element: Element) -> Setup
+    ensures { result ≡ spec.element_setup request_type control element }
 {
     Setup {
         request_type,

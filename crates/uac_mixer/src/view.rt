@@ -22,7 +22,7 @@ use crate::element::Element;
 use crate::faults::{SetFault, ViewFault};
 use crate::link::{Broken, Link};
 use crate::listing;
-use crate::transfers::{GET, SET, follow_all, follow_one, is_for_any, setup_of};
+use crate::transfers::{GET, SET, element_setup, follow_all, follow_one, is_for_any};
 use std::alloc::Global;
 use std::marker::Model;
 use uac_request::bytes::value_bytes;
@@ -115,7 +115,7 @@ impl View {
         functions_are_sound(link.function());
         sound_functions_have_keys_and_rates();
         let control = link.function().control_interface();
-        let setup = setup_of(GET, control, self.element(at));
+        let setup = element_setup(GET, control, self.element(at));
         match self.transfer_at(at, link, &setup, &[]) {
             Ok(_) => Ok(self.element(at).value.unwrap()),
             Err(broken) => Err(broken),
@@ -137,7 +137,7 @@ impl View {
     {
         let control = link.function().control_interface();
         let element = self.element(at);
-        let setup = setup_of(SET, control, element);
+        let setup = element_setup(SET, control, element);
         let bytes = value_bytes(element.kind.width(), value);
         match self.transfer_at(at, link, &setup, bytes.as_slice()) {
             Ok(answer) => set_outcome(answer),

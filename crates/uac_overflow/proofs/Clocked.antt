@@ -10,7 +10,7 @@ use Rattle.uac_topology.specs.Function.{FunctionFields}
 use Rattle.uac_topology.specs.Topology.{IsSoundFunction}
 use Rattle.uac_graph.specs.Meaning.{entity}
 use Rattle.uac_bands.proofs.Once.{Among}
-use Rattle.uac_bands.proofs.SoundStart.{clock_known}
+use Rattle.uac_bands.proofs.BandTransfersStartLemmas.{clock_known}
 
 output_is_terminal : (k : EntityKind) → is_output k ≡ true → is_terminal k ≡ true
 output_is_terminal kind.ClockSource is = absurd (true≢false (sym is))

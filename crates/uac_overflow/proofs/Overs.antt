@@ -12,11 +12,11 @@ use Rattle.uac_flow.specs.FlowStreams.{InStream, OutStream, arrival_of, is_due, 
 use Rattle.uac_flow.specs.declared.arrival.Arrival.{Arrival}
 use Rattle.uac_flow.specs.declared.arrival.Arrival.TheVariants as arrivals
 use Rattle.uac_host.specs.HostWorld.{Track}
-use Rattle.uac_lanes.specs.InterfaceStreams.{either_due}
+use Rattle.uac_device_streams.specs.InterfaceStreams.{either_due}
 use Rattle.uac_device.specs.DeviceWorld.{DeviceWorld, Domain, after_advance, arrival_in, is_due_in, is_on, next_ticks, after_receiving}
-use Rattle.uac_script.specs.Phrase.{SaidMark}
+use Rattle.uac_script.specs.Phrase.{PhraseMark}
 use Rattle.uac_transcript.specs.Transcript.{Said, says_over, says_under}
-use Rattle.uac_streaming.specs.Telling.{at_rest}
+use Rattle.uac_streaming.specs.Telling.{without_event}
 use Rattle.uac_streaming.specs.StreamingWorld.{StreamingWorld, all_settled, finds_empty, finds_full, goes_out, is_out_due, loses_out, numbers, out_packets, out_turn, over_lines, packet_sent, packet_to, sent_lines}
 use Rattle.uac_running.specs.RunningWorld.{RunningWorld, streaming_of}
 use Rattle.uac_running.specs.Events.{after_all_jacks, domain_microframe, domain_microframes, tick, tick_times}
@@ -61,7 +61,7 @@ module _ (k : ℕ) where
   own_overs arrivals.Lost room = All-nil NotOver
   own_overs arrivals.Over room = absurd (room refl)
 
-  other_packets : (detail : ℕ) (marks : List SaidMark) (n : ℕ) (w : StreamingWorld) → (k == n) ≡ false
+  other_packets : (detail : ℕ) (marks : List PhraseMark) (n : ℕ) (w : StreamingWorld) → (k == n) ≡ false
       → All NotOver (out_turn detail marks n w).lines
   other_packets detail marks n w other =
       out_turn_says NotOver quiet detail marks n w
@@ -74,18 +74,18 @@ module _ (k : ℕ) where
   no_arrival w packet none over =
       let lost : arrivals.Lost ≡ arrivals.Over = sym (ap (λ (o : Option OutStream). option_map_or (arrival_of packet) o arrivals.Lost) none) ∙ over in cc
 
-  out_none : (detail : ℕ) (marks : List SaidMark) (n : ℕ) (w : StreamingWorld) → (k == n) ≡ false → w.device.outs k ≡ None
+  out_none : (detail : ℕ) (marks : List PhraseMark) (n : ℕ) (w : StreamingWorld) → (k == n) ≡ false → w.device.outs k ≡ None
       → (out_turn detail marks n w).world.device.outs k ≡ None
   unfolding out_turn packet_sent after_receiving
   out_none detail marks n w other none = by (is_out_due w n)
     where
       by : (b : Bool)
           → (if b then record { lines = sent_lines detail (loses_out marks n) n w; world = packet_sent (loses_out marks n) n w }
-          else at_rest w).world.device.outs k ≡ None
+          else without_event w).world.device.outs k ≡ None
       by true = if_false (k == n) _ (w.device.outs k) other ∙ none
       by false = none
 
-  outs_none : (detail : ℕ) (marks : List SaidMark) (w : StreamingWorld) → w.device.outs k ≡ None → All NotOver (out_packets detail marks w).lines
+  outs_none : (detail : ℕ) (marks : List PhraseMark) (w : StreamingWorld) → w.device.outs k ≡ None → All NotOver (out_packets detail marks w).lines
   unfolding out_packets
   outs_none detail marks w none =
       turns_once_say NotOver (out_turn detail marks) k (λ n v other. other_packets detail marks n v other) (λ v. v.device.outs k ≡ None)
@@ -127,7 +127,7 @@ module _ (k : ℕ) where
 
 -- ---- where it runs one to it
 
-module _ (p : Place) (is : IsPlace p) (detail : ℕ) (marks : List SaidMark) (l : Life) (t : Track) where
+module _ (p : Place) (is : IsPlace p) (detail : ℕ) (marks : List PhraseMark) (l : Life) (t : Track) where
   abbrev packet : Option (List ℕ)
   packet = if loses_out marks p.interface then None else Some (packet_at l.pace t)
 
@@ -156,7 +156,7 @@ module _ (p : Place) (is : IsPlace p) (detail : ℕ) (marks : List SaidMark) (l 
       (λ over. room (sym (due_here v there) ∙ due) (sym (arrives v there) ∙ over))))
       (numbers w.device.function) w (numbers_differ w.device.function) s
 
-stream_room : (marks : List SaidMark) (r : RunningWorld) (k : ℕ) (l : Life) (d : Domain) → StreamInBand r k l d
+stream_room : (marks : List PhraseMark) (r : RunningWorld) (k : ℕ) (l : Life) (d : Domain) → StreamInBand r k l d
     → All (NotOver k) (out_packets r.detail marks (streaming_of (numbered r))).lines
 stream_room marks r k l d stream = opened r k l d stream.runs (λ clock place steps is s.
     (let p : Place = place_in r k d clock place in
@@ -167,7 +167,7 @@ stream_room marks r k l d stream = opened r k l d stream.runs (λ clock place st
     (streaming_of (numbered r)) s))
 
 -- no packet to the device is without room
-pub outs_have_room : (marks : List SaidMark) (r : RunningWorld) → RunInBand r → (k : ℕ)
+pub outs_have_room : (marks : List PhraseMark) (r : RunningWorld) → RunInBand r → (k : ℕ)
     → All (NotOver k) (out_packets r.detail marks (streaming_of (numbered r))).lines
 outs_have_room marks r band k = by (r.device.outs k) refl
   where

@@ -23,7 +23,7 @@ use Rattle.uac_alt.specs.AltStreams.{StreamFields}
 use Rattle.uac_alt.specs.declared.settings.InterfaceSetting.{InterfaceSetting}
 use Rattle.uac_flow.specs.FlowStreams.{InStream, OutStream, in_level, is_due}
 use Rattle.uac_device.specs.DeviceWorld.{DeviceWorld, Domain}
-use Rattle.uac_script.specs.Phrase.{SaidMark}
+use Rattle.uac_script.specs.Phrase.{PhraseMark}
 use Rattle.uac_streaming.specs.StreamingWorld.{all_settled, comes_in, goes_out, out_packets}
 use Rattle.uac_running.specs.RunningWorld.{RunningWorld, streaming_of, with_streaming}
 use Rattle.uac_running.specs.Events.{domain_microframes, ends_and_reports, microframe, packets_and_ticks}
@@ -107,7 +107,7 @@ one_way function k comes goes = by (interface_in function k) comes goes
 
 -- ---- one stream from the device
 
-module _ (marks : List SaidMark) (r : RunningWorld) (band : RunInBand r) (sound : IsSoundRun r) (k : ℕ) (i : InStream) (d : Domain) (clock : ℕ)
+module _ (marks : List PhraseMark) (r : RunningWorld) (band : RunInBand r) (sound : IsSoundRun r) (k : ℕ) (i : InStream) (d : Domain) (clock : ℕ)
     (there : r.device.ins k ≡ Some i) (rec : IsRecorded r k i d) (on_clock : domain_id_on r k ≡ Some clock)
     (found : find (λ d. d.id == clock) r.device.domains ≡ Some d) where
   abbrev p : Spot

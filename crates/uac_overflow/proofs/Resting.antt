@@ -6,7 +6,7 @@ use Rattle.uac_graph.specs.Meaning.{meaning}
 use Rattle.uac_graph.specs.Needs.{is_end}
 use Rattle.uac_device.specs.DeviceWorld.{DeviceWorld, after_advance, entity_in, input_of, is_on, played_to, after_receiving, set_jack, after_settling, after_tick}
 use Rattle.uac_device.specs.DeviceWorld.{after_sending_packet as device_sends}
-use Rattle.uac_script.specs.Phrase.{SaidMark}
+use Rattle.uac_script.specs.Phrase.{PhraseMark}
 use Rattle.uac_streaming.specs.StreamingWorld.{StreamingWorld, in_packets, out_packets, packet_fetched, packet_sent, report_made}
 use Rattle.uac_running.specs.RunningWorld.{RunningWorld, streaming_of, with_streaming}
 use Rattle.uac_running.specs.Events.{after_all_jacks, domain_microframe, microframe, tick}
@@ -54,10 +54,10 @@ module _ (k : ℕ) where
   pub domain_sends_none : (c : ℕ) (r : RunningWorld) → SendsNoneNow r → SendsNoneNow (domain_microframe c r).world
   domain_sends_none = domain_keeps SendsNone starts_none
 
-  pub before_ticks_sends_none : (marks : List SaidMark) (r : RunningWorld) → SendsNoneNow r
+  pub before_ticks_sends_none : (marks : List PhraseMark) (r : RunningWorld) → SendsNoneNow r
       → (let sent = with_streaming r (out_packets r.detail marks (streaming_of r)).world in
       SendsNoneNow (with_streaming sent (in_packets sent.detail marks (streaming_of sent)).world))
   before_ticks_sends_none = before_ticks_keep SendsNone starts_none
 
-  pub microframe_sends_none : (marks : List SaidMark) (r : RunningWorld) → SendsNoneNow r → SendsNoneNow (microframe marks r).world
+  pub microframe_sends_none : (marks : List PhraseMark) (r : RunningWorld) → SendsNoneNow r → SendsNoneNow (microframe marks r).world
   microframe_sends_none = microframe_keeps SendsNone starts_none

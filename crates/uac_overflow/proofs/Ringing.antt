@@ -12,12 +12,12 @@ use Rattle.uac_graph.specs.Meaning.{entity}
 use Rattle.uac_alt.specs.AltStreams.{StreamFields}
 use Rattle.uac_alt.specs.declared.settings.InterfaceSetting.{InterfaceSetting}
 use Rattle.uac_flow.specs.FlowStreams.{InStream, OutStream, after_packet, after_putting, after_sending, after_taking, after_ticks, in_level, is_due, is_full, sent_frames, settled_in, settled_out}
-use Rattle.uac_lanes.specs.InterfaceStreams.{either_due}
+use Rattle.uac_device_streams.specs.InterfaceStreams.{either_due}
 use Rattle.uac_device.specs.DeviceWorld.{DeviceWorld, Domain, after_advance, feedback_in, is_due_in, is_on, next_ticks, after_receiving, set_jack, after_settling, step_in, steps_with_next, after_tick}
 use Rattle.uac_device.specs.DeviceWorld.{after_sending_packet as device_sends}
-use Rattle.uac_script.specs.Phrase.{SaidMark}
-use Rattle.uac_streaming.specs.Telling.{at_rest}
-use Rattle.uac_streaming.specs.StreamingWorld.{StreamingWorld, all_reported, all_settled, comes_in, fetched_lines, in_packet_turn, in_packets, is_in_due, is_out_due, loses_in, loses_out, loses_report, numbers, out_packets, out_turn, packet_fetched, packet_sent, packet_to, report_lines, report_made, report_turn, sent_lines, settled_turn}
+use Rattle.uac_script.specs.Phrase.{PhraseMark}
+use Rattle.uac_streaming.specs.Telling.{without_event}
+use Rattle.uac_streaming.specs.StreamingWorld.{StreamingWorld, all_reported, all_settled, comes_in, fetched_lines, in_packet_turn, in_packets, is_in_due, is_out_due, loses_in, loses_out, loses_report, numbers, out_packets, out_turn, packet_fetched, packet_sent, packet_to, feedback_lines, report_made, report_turn, sent_lines, settled_turn}
 use Rattle.uac_running.specs.declared.jacks.Jack.{Jack}
 use Rattle.uac_running.specs.RunningWorld.{RunningWorld}
 use Rattle.uac_running.specs.Events.{after_all_jacks, domain_microframe, domain_microframes, next_frame, tick, tick_times}
@@ -119,14 +119,14 @@ on_clock_only p spot = clock_only p.function p.interface p.clock spot.on_clock
 
 -- ---- turns
 
-module _ (p : Spot) (detail : ℕ) (marks : List SaidMark) (after few : ℕ) (steps : List ℕ) where
+module _ (p : Spot) (detail : ℕ) (marks : List PhraseMark) (after few : ℕ) (steps : List ℕ) where
   out_any : (n : ℕ) (w : StreamingWorld) → Rings p after few steps w.device → Rings p after few steps (out_turn detail marks n w).world.device
   unfolding out_turn packet_sent after_receiving
   out_any n w s = by (is_out_due w n)
     where
       by : (b : Bool)
           → Rings p after few steps (if b then record { lines = sent_lines detail (loses_out marks n) n w; world = packet_sent (loses_out marks n) n w }
-          else at_rest w).world.device
+          else without_event w).world.device
       by true = record {
         function = s.function;
         controls = s.controls;
@@ -146,7 +146,7 @@ module _ (p : Spot) (detail : ℕ) (marks : List SaidMark) (after few : ℕ) (st
     where
       by : (b : Bool)
           → Rings p after few steps (if b then record { lines = fetched_lines detail (loses_in marks n) n w; world = packet_fetched (loses_in marks n) n w }
-          else at_rest w).world.device
+          else without_event w).world.device
       by true = record {
         function = s.function;
         controls = s.controls;
@@ -163,7 +163,7 @@ module _ (p : Spot) (detail : ℕ) (marks : List SaidMark) (after few : ℕ) (st
       → Rings p after (if is_due p.stream after then 0 else few) steps (in_packet_turn detail marks p.interface w).world.device
   unfolding in_packet_turn packet_fetched device_sends is_due_in
   in_here spot fits w s =
-      subst (λ (b : Bool). Rings p after (if is_due p.stream after then 0 else few) steps (if b then record { lines = fetched_lines detail (loses_in marks p.interface) p.interface w; world = packet_fetched (loses_in marks p.interface) p.interface w } else at_rest w).world.device)
+      subst (λ (b : Bool). Rings p after (if is_due p.stream after then 0 else few) steps (if b then record { lines = fetched_lines detail (loses_in marks p.interface) p.interface w; world = packet_fetched (loses_in marks p.interface) p.interface w } else without_event w).world.device)
       (sym due) (by (is_due p.stream after))
     where
       due : is_in_due w p.interface ≡ is_due p.stream after
@@ -176,7 +176,7 @@ module _ (p : Spot) (detail : ℕ) (marks : List SaidMark) (after few : ℕ) (st
           ∙ ap (λ (n : ℕ). is_due p.stream n) s.is.counted
 
       by : (b : Bool)
-          → Rings p after (if b then 0 else few) steps (if b then record { lines = fetched_lines detail (loses_in marks p.interface) p.interface w; world = packet_fetched (loses_in marks p.interface) p.interface w } else at_rest w).world.device
+          → Rings p after (if b then 0 else few) steps (if b then record { lines = fetched_lines detail (loses_in marks p.interface) p.interface w; world = packet_fetched (loses_in marks p.interface) p.interface w } else without_event w).world.device
       by true = record {
         function = s.function;
         controls = s.controls;
@@ -224,14 +224,14 @@ module _ (p : Spot) (detail : ℕ) (marks : List SaidMark) (after few : ℕ) (st
   report_any n w s = by (feedback_in w.device n)
     where
       by : (o : Option ℕ)
-          → Rings p after few steps (option_map_or (λ value. record { lines = report_lines detail (loses_report marks n) value n; world = report_made (loses_report marks n) value n w })
-          o (at_rest w)).world.device
+          → Rings p after few steps (option_map_or (λ value. record { lines = feedback_lines detail (loses_report marks n) value n; world = report_made (loses_report marks n) value n w })
+          o (without_event w)).world.device
       by None = s
       by (Some value) = s
 
 -- ---- all turns
 
-module _ (p : Spot) (spot : IsSpot p) (small : All (λ s. s.number < 256) p.function.streams) (detail : ℕ) (marks : List SaidMark) (after few : ℕ)
+module _ (p : Spot) (spot : IsSpot p) (small : All (λ s. s.number < 256) p.function.streams) (detail : ℕ) (marks : List PhraseMark) (after few : ℕ)
     (steps : List ℕ) where
   among : (w : DeviceWorld) → Rings p after few steps w → Among p.interface (numbers w.function)
   among w s =

@@ -18,24 +18,24 @@ use Rattle.uac_alt.proofs.Fitting.{interval_fits}
 use Rattle.uac_request.specs.declared.setup.Setup.{Setup}
 use Rattle.uac_request.proofs.Lasting.{rates_stay}
 use Rattle.uac_flow.specs.FlowStreams.{InStream, OutStream, started_in}
-use Rattle.uac_host.specs.Calls.{with_stream}
-use Rattle.uac_lanes.specs.InterfaceStreams.{in_from, out_from, replaced_at}
+use Rattle.uac_host.specs.HostCalls.{with_stream}
+use Rattle.uac_device_streams.specs.InterfaceStreams.{in_from, out_from, replaced_at}
 use Rattle.uac_request.specs.Requests.{sets_interface}
 use Rattle.uac_device.specs.DeviceWorld.{Domain, after_deviation, fresh, after_restart, stream_in_setting}
 use Rattle.uac_device.specs.Linked.{IsOutput}
 use Rattle.uac_device.proofs.LinkedLemmas.{linked}
 use Rattle.uac_device.proofs.SettingStreams.{stream_fits}
-use Rattle.uac_running.specs.RunningWorld.{RunningWorld, at_start, with_detail, with_deviation, with_samples_on, with_tone, with_track}
+use Rattle.uac_running.specs.RunningWorld.{RunningWorld, at_start, with_detail, with_deviation, with_samples_on, with_jack_tone, with_track}
 use Rattle.uac_running.specs.RunningTransfers.{with_break}
 use Rattle.uac_bands.specs.Life.{domain_id_on, domain_on}
 use Rattle.uac_bands.specs.BandRun.{RunInBand}
 use Rattle.uac_bands.specs.BandTransfers.{IsInSetting, IsSoundRun}
 use Rattle.uac_bands.proofs.Asked.{asked_of, parts_of}
 use Rattle.uac_bands.proofs.Begun.{found_off, off, off_clock}
-use Rattle.uac_bands.proofs.SoundRuns.{known_clock}
-use Rattle.uac_bands.proofs.SoundStart.{any_among, found_stream}
+use Rattle.uac_bands.proofs.BandTransfersRunLemmas.{known_clock}
+use Rattle.uac_bands.proofs.BandTransfersStartLemmas.{any_among, found_stream}
 use Rattle.uac_bands.proofs.Requested.{after, asked_device, begun, done, given_then, held, seen, transferred_so}
-use Rattle.uac_bands.proofs.SoundTransfers.{other_setting, same_settings, setting_is, settings_are}
+use Rattle.uac_bands.proofs.BandTransfersLemmas.{other_setting, same_settings, setting_is, settings_are}
 use Rattle.uac_bands.proofs.Transferred.{controls_same, found_domain, running_by, some_of}
 use Rattle.uac_overflow.specs.Recording.{AreRecorded, CallsStayRecorded, IsRecorded, RunsStartRecorded, TransfersStayRecorded}
 use Rattle.uac_overflow.proofs.Clocked.{output_known}
@@ -110,9 +110,9 @@ module _ (clock : ℕ) (ppm : ℤ) (r : RunningWorld) where
       (off clock ppm rec.0, recorded_off k i rec.0 rec.1)
 
 pub calls_stay_recorded : CallsStayRecorded
-unfolding with_tone with_detail with_break with_samples_on with_track
+unfolding with_jack_tone with_detail with_break with_samples_on with_track
 calls_stay_recorded r recorded = record {
-  tone = λ terminal tone. carried r (with_tone terminal tone r) recorded;
+  tone = λ terminal tone. carried r (with_jack_tone terminal tone r) recorded;
   detail = λ level. carried r (with_detail level r) recorded;
   breaks = λ after. carried r (with_break after r) recorded;
   samples = λ interface samples. carried r (with_samples_on interface samples r) recorded;

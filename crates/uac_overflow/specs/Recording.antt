@@ -13,10 +13,10 @@ use Rattle.uac_store.specs.Rates.{rate_of}
 use Rattle.uac_request.specs.declared.setup.Setup.{Setup}
 use Rattle.uac_flow.specs.FlowStreams.{InStream, in_level}
 use Rattle.uac_device.specs.DeviceWorld.{Domain}
-use Rattle.uac_script.specs.Phrase.{SaidMark}
+use Rattle.uac_script.specs.Phrase.{PhraseMark}
 use Rattle.uac_streaming.specs.StreamingWorld.{comes_in}
 use Rattle.uac_transcript.specs.Transcript.{Said, says_over}
-use Rattle.uac_running.specs.RunningWorld.{RunningWorld, at_start, with_detail, with_deviation, with_samples_on, with_tone, with_track}
+use Rattle.uac_running.specs.RunningWorld.{RunningWorld, at_start, with_detail, with_deviation, with_samples_on, with_jack_tone, with_track}
 use Rattle.uac_running.specs.Events.{microframe}
 use Rattle.uac_running.specs.RunningTransfers.{after_transfer, with_break}
 use Rattle.uac_bands.specs.Life.{domain_on}
@@ -63,17 +63,17 @@ RunsStartRecorded =
 
 -- a microframe of a sound run in its bands leaves it so, and tells of no ring that was full: neither of one from the device, nor of one
 -- to it that had no room for its packet
-pub record StaysRecorded (marks : List SaidMark) (r : RunningWorld) : Type 0 where
+pub record StaysRecorded (marks : List PhraseMark) (r : RunningWorld) : Type 0 where
   pub stays : AreRecorded (microframe marks r).world
   pub no_over : All IsNoOver (microframe marks r).lines
 
 abbrev pub MicroframesStayRecorded : Type 0
 MicroframesStayRecorded =
-    (marks : List SaidMark) (r : RunningWorld) → RunInBand r → IsSoundRun r → AreRecorded r → StaysRecorded marks r
+    (marks : List PhraseMark) (r : RunningWorld) → RunInBand r → IsSoundRun r → AreRecorded r → StaysRecorded marks r
 
 -- what else is asked of a run leaves it so
 pub record StaysRecordedBetween (r : RunningWorld) : Type 0 where
-  pub tone : (terminal : ℕ) (tone : Tone) → AreRecorded (with_tone terminal tone r)
+  pub tone : (terminal : ℕ) (tone : Tone) → AreRecorded (with_jack_tone terminal tone r)
   pub detail : (level : ℕ) → AreRecorded (with_detail level r)
   pub breaks : (after : Bool) → AreRecorded (with_break after r)
   pub samples : (interface : ℕ) (samples : List ℤ) → AreRecorded (with_samples_on interface samples r)

@@ -1,6 +1,6 @@
 pub mod Wrapping
-pub mod Rounding
-pub mod Cutting
+pub mod SubslotsRoundingLemmas
+pub mod SubslotsLemmas
 pub mod Packing
 pub mod Sounding
 pub mod PacketsLemmas

@@ -8,7 +8,7 @@ use Rattle.std.specs.Simd.{first_chunks}
 use Rattle.std.proofs.lemmas.List.{append-nil, flat_map_more, length-map, length-take-le, take_at}
 use Rattle.std.proofs.lemmas.Nat.{div-mul-add}
 use Rattle.std.proofs.lemmas.Option.{slice_get-map}
-use Rattle.uac_pcm.specs.SampleWords.{cut, sample_of_word}
+use Rattle.uac_pcm.specs.Subslots.{cut_to, sample_of_subslot}
 use Rattle.uac_pcm.specs.Frames.{IsFormat, bytes_of_frame, frame_of_bytes}
 use Rattle.uac_pcm.specs.Packets.{IsFrame, bytes_of_frames, frames_of_bytes, whole_frames}
 use Rattle.uac_pcm.proofs.Packing.{length-bytes_of_frame, frame_of_bytes-bytes_of_frame}
@@ -103,7 +103,7 @@ one_written channels size bits start n frames more frame old new rest wide is_st
 -- the frames that are read are those that were packed, cut
 chunks_read : (count size resolution : ℕ) (frames : List (List ℤ)) (rest : List ℕ) → IsFormat count size resolution → All (IsFrame count) frames
     → map (frame_of_bytes count size resolution) (first_chunks (count * size) (length frames) (bytes_of_frames size resolution frames ++ rest))
-    ≡ map (map (cut resolution)) frames
+    ≡ map (map (cut_to resolution)) frames
 chunks_read count size resolution [] rest format framed = refl
 chunks_read count size resolution (f ∷ fs) rest format framed =
     let is_frame : IsFrame count f = framed 0 f (omega arith) in
@@ -112,15 +112,15 @@ chunks_read count size resolution (f ∷ fs) rest format framed =
     let long : length bytes ≡ count * size = length-bytes_of_frame size resolution f ∙ ap (λ (n : ℕ). n * size) is_frame.0 in
     let front : take (count * size) (bytes ++ others) ≡ bytes = take_front (count * size) bytes others long in
     let back : drop (count * size) (bytes ++ others) ≡ others = drop_front (count * size) bytes others long in
-    let read : frame_of_bytes count size resolution bytes ≡ map (cut resolution) f =
+    let read : frame_of_bytes count size resolution bytes ≡ map (cut_to resolution) f =
     ap (frame_of_bytes count size resolution) (sym (append-nil bytes))
     ∙ ap (λ (n : ℕ). frame_of_bytes n size resolution (bytes ++ [])) (sym is_frame.0)
     ∙ frame_of_bytes-bytes_of_frame size resolution f [] format.3 format.4 format.5 is_frame.1 in
     ap (λ (bs : List ℕ). map (frame_of_bytes count size resolution) (first_chunks (count * size) (suc (length fs)) bs)) (append_assoc bytes (bytes_of_frames size resolution fs) rest)
     ∙ ap (λ (bs : List ℕ). frame_of_bytes count size resolution bs ∷ map (frame_of_bytes count size resolution) (first_chunks (count * size) (length fs) (drop (count * size) (bytes ++ others)))) front
     ∙ ap (λ (zs : List ℤ). zs ∷ map (frame_of_bytes count size resolution) (first_chunks (count * size) (length fs) (drop (count * size) (bytes ++ others)))) read
-    ∙ ap (λ (bs : List ℕ). map (cut resolution) f ∷ map (frame_of_bytes count size resolution) (first_chunks (count * size) (length fs) bs)) back
-    ∙ ap (λ (zs : List (List ℤ)). map (cut resolution) f ∷ zs)
+    ∙ ap (λ (bs : List ℕ). map (cut_to resolution) f ∷ map (frame_of_bytes count size resolution) (first_chunks (count * size) (length fs) bs)) back
+    ∙ ap (λ (zs : List (List ℤ)). map (cut_to resolution) f ∷ zs)
     (chunks_read count size resolution fs rest format (λ k d below. framed (suc k) d (omega arith)))
 
 -- as many frames are whole as were packed
@@ -132,7 +132,7 @@ whole_frames-bytes_of_frames count size resolution frames rest even short =
     ap (λ (n : ℕ). n / (count * size)) long ∙ div-mul-add (length frames) (count * size) (length rest) short
 
 pub frames_of_bytes-bytes_of_frames : (count size resolution : ℕ) (frames : List (List ℤ)) (rest : List ℕ) → IsFormat count size resolution → All (IsFrame count) frames
-    → length rest < count * size → frames_of_bytes count size resolution (bytes_of_frames size resolution frames ++ rest) ≡ map (map (cut resolution)) frames
+    → length rest < count * size → frames_of_bytes count size resolution (bytes_of_frames size resolution frames ++ rest) ≡ map (map (cut_to resolution)) frames
 frames_of_bytes-bytes_of_frames count size resolution frames rest format framed short =
     let even : All (λ samples. length samples ≡ count) frames = λ k d below. (framed k d below).0 in
     let bytes : List ℕ = bytes_of_frames size resolution frames ++ rest in
@@ -193,7 +193,7 @@ unpacked_short count size resolution bytes short =
 pub frames_of_bytes-even : (count size resolution : ℕ) (bytes : List ℕ) → All (λ samples. length samples ≡ count) (frames_of_bytes count size resolution bytes)
 frames_of_bytes-even count size resolution bytes = along (first_chunks (count * size) (whole_frames count size bytes) bytes) where
   one : (bs : List ℕ) → length (frame_of_bytes count size resolution bs) ≡ count
-  one bs = length-map (first_chunks size count bs) (sample_of_word size resolution) ∙ length-first_chunks size count bs
+  one bs = length-map (first_chunks size count bs) (sample_of_subslot size resolution) ∙ length-first_chunks size count bs
 
   along : (chunks : List (List ℕ)) → All (λ samples. length samples ≡ count) (map (frame_of_bytes count size resolution) chunks)
   along [] k d below = absurd (omega arith)

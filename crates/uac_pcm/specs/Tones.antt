@@ -1,7 +1,7 @@
 -- profile: the sample of a test tone at a place, which counts frames from 0, and a channel, which counts from 0
 use Rattle.std.specs.Prelude.{ℕ, ◌+◌, ◌*◌, ℤ, pos, ◌+ℤ◌, ◌*ℤ◌, List, map}
 use Rattle.std.specs.List.{range_with_len}
-use Rattle.uac_pcm.specs.SampleWords.{wrap}
+use Rattle.uac_pcm.specs.Subslots.{wrap}
 use Rattle.uac_pcm.specs.declared.tones.Tone.{Tone}
 use Rattle.uac_pcm.specs.declared.tones.Tone.TheVariants.{Silent, Ramp, Noise}
 

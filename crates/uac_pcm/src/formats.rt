@@ -7,7 +7,7 @@ ghost use Rattle.uac_pcm.specs.Frames.{IsFormat, bytes_of_frame, frame_of_bytes}
 ghost use Rattle.uac_pcm.specs.Packets.{bytes_of_frames, frames_of_bytes, whole_frames};
 
 use crate::blanks::{ZEROS, silence};
-use crate::words::{read_words, write_words};
+use crate::subslots::{read_subslots, write_subslots};
 use crate::{Frame, Packet};
 
 /// A format of Type I PCM: how many channels, bytes for each sample, and bits of them that are used.
@@ -89,12 +89,12 @@ impl Format {
         ensures { bytes.new ≡ bytes_of_frame self.now.subslot self.now.bits frame.now.items }
     {
         let samples = frame.as_slice();
-        // Each size of a word has a loop of its own.
+        // Each size of a subslot has a loop of its own.
         match self.subslot {
-            1 => write_words::<1>(samples, self.bits, bytes),
-            2 => write_words::<2>(samples, self.bits, bytes),
-            3 => write_words::<3>(samples, self.bits, bytes),
-            _ => write_words::<4>(samples, self.bits, bytes),
+            1 => write_subslots::<1>(samples, self.bits, bytes),
+            2 => write_subslots::<2>(samples, self.bits, bytes),
+            3 => write_subslots::<3>(samples, self.bits, bytes),
+            _ => write_subslots::<4>(samples, self.bits, bytes),
         }
     }
 
@@ -129,12 +129,12 @@ impl Format {
         requires whole { length bytes.now ≡ self.now.channels * self.now.subslot }
         ensures { samples.new ≡ frame_of_bytes self.now.channels self.now.subslot self.now.bits bytes.now }
     {
-        // Each size of a word has a loop of its own.
+        // Each size of a subslot has a loop of its own.
         match self.subslot {
-            1 => read_words::<1>(bytes, self.bits, samples),
-            2 => read_words::<2>(bytes, self.bits, samples),
-            3 => read_words::<3>(bytes, self.bits, samples),
-            _ => read_words::<4>(bytes, self.bits, samples),
+            1 => read_subslots::<1>(bytes, self.bits, samples),
+            2 => read_subslots::<2>(bytes, self.bits, samples),
+            3 => read_subslots::<3>(bytes, self.bits, samples),
+            _ => read_subslots::<4>(bytes, self.bits, samples),
         }
     }
 

@@ -1,16 +1,16 @@
-// What holds of samples, words and frames whatever a program does with them.
+// What holds of samples, subslots and frames whatever a program does with them.
 ghost use Rattle.std.specs.Prelude.{◌≡◌, ℕ, ◌<◌, ◌≤◌, ◌*◌, ◌++◌, ℤ, List, length, slice_get, slice_index_or, Some, map, FitsSigned};
 ghost use Rattle.std.specs.Int.{w32};
 ghost use Rattle.std.specs.List.{All};
 ghost use Rattle.uac_pcm.specs.Frames.{IsFormat, bytes_of_frame, frame_of_bytes};
 ghost use Rattle.uac_pcm.specs.Packets.{IsFrame, bytes_of_frames, bytes_of_frame_at, whole_frames, frames_of_bytes};
-ghost use Rattle.uac_pcm.specs.SampleWords.{cut, word_of, sample_of_word};
+ghost use Rattle.uac_pcm.specs.Subslots.{cut_to, subslot_of, sample_of_subslot};
 
-/// Reading the word of a sample gives the sample, cut to the resolution; and a sample that was cut stays as it is.
-pub fn word_is_read_back()
+/// Reading the subslot of a sample gives the sample, cut to the resolution; and a sample that was cut stays as it is.
+pub fn subslot_is_read_back()
     ensures read { (size resolution : ℕ) (sample : ℤ) → 1 ≤ size → size ≤ 4 → 1 ≤ resolution → resolution ≤ 8 * size → FitsSigned w32 sample
-        → sample_of_word size resolution (word_of size resolution sample) ≡ cut resolution sample }
-    ensures once { (resolution : ℕ) (sample : ℤ) → cut resolution (cut resolution sample) ≡ cut resolution sample }
+        → sample_of_subslot size resolution (subslot_of size resolution sample) ≡ cut_to resolution sample }
+    ensures once { (resolution : ℕ) (sample : ℤ) → cut_to resolution (cut_to resolution sample) ≡ cut_to resolution sample }
 {}
 
 /// Reading the bytes of a frame, whatever stands after them, gives its samples, each cut; and there are as many bytes as
@@ -18,7 +18,7 @@ pub fn word_is_read_back()
 pub fn frame_is_read_back()
     ensures read { (count size resolution : ℕ) (samples : List ℤ) (rest : List ℕ)
         → IsFormat count size resolution → length samples ≡ count → All (FitsSigned w32) samples
-        → frame_of_bytes count size resolution (bytes_of_frame size resolution samples ++ rest) ≡ map (cut resolution) samples }
+        → frame_of_bytes count size resolution (bytes_of_frame size resolution samples ++ rest) ≡ map (cut_to resolution) samples }
     ensures bytes { (size resolution : ℕ) (samples : List ℤ) → length (bytes_of_frame size resolution samples) ≡ length samples * size }
 {}
 
@@ -27,7 +27,7 @@ pub fn frame_is_read_back()
 pub fn frames_are_read_back()
     ensures read { (count size resolution : ℕ) (frames : List (List ℤ)) (rest : List ℕ)
         → IsFormat count size resolution → All (IsFrame count) frames → length rest < count * size
-        → frames_of_bytes count size resolution (bytes_of_frames size resolution frames ++ rest) ≡ map (map (cut resolution)) frames }
+        → frames_of_bytes count size resolution (bytes_of_frames size resolution frames ++ rest) ≡ map (map (cut_to resolution)) frames }
     ensures whole { (count size resolution : ℕ) (frames : List (List ℤ)) (rest : List ℕ)
         → All (λ samples. length samples ≡ count) frames → length rest < count * size
         → whole_frames count size (bytes_of_frames size resolution frames ++ rest) ≡ length frames }

@@ -1,11 +1,11 @@
-//! Samples of Type I PCM: the words, frames and packets that carry them, and the tones that make them.
+//! Samples of Type I PCM: the subslots, frames and packets that carry them, and the tones that make them.
 #![tactic(auto)]
 
 mod blanks;
 mod formats;
 pub mod laws;
+mod subslots;
 mod tones;
-mod words;
 
 pub use blanks::{resize, silence};
 pub use formats::Format;

@@ -8,10 +8,10 @@ use Rattle.uac_running.specs.RunningWorld.{at_start}
 use Rattle.uac_running.specs.RunningLines.{ready_line}
 use Rattle.uac_bus.specs.BusWorld.{BusWorld, describing, running, step_describing}
 use Rattle.uac_bands.proofs.Begun.{runs_start_in_band}
-use Rattle.uac_bands.proofs.SoundStart.{runs_start_sound}
+use Rattle.uac_bands.proofs.BandTransfersStartLemmas.{runs_start_sound}
 use Rattle.uac_homing.specs.Past.{Pasts}
 use Rattle.uac_steady.proofs.Beginning.{describing_is}
-use Rattle.uac_promises.specs.Watched.{microframes_of}
+use Rattle.uac_promises.specs.Watches.{microframes_of}
 use Rattle.uac_promises.proofs.PlainLines.{IsPlain, one_plain}
 use Rattle.uac_promises.proofs.GoodRuns.{LawsOfSteps}
 use Rattle.uac_promises.proofs.OneByOne.{KeepsAll, leaves_plain}

@@ -5,7 +5,7 @@ use Rattle.std.specs.List.{All}
 use Rattle.std.proofs.lemmas.List.Elements.{All-append, All-map, All-nil}
 use Rattle.uac_descriptor.specs.BlockReading.{AreBytes}
 use Rattle.uac_rate.specs.Steadiness.{is_steady}
-use Rattle.uac_script.specs.Phrase.{SaidMark}
+use Rattle.uac_script.specs.Phrase.{PhraseMark}
 use Rattle.uac_running.specs.RunningWorld.{RunningWorld}
 use Rattle.uac_running.specs.Events.{microframe, microframes}
 use Rattle.uac_bus.specs.BusWorld.{BusWorld, describing, running}
@@ -13,13 +13,13 @@ use Rattle.uac_bands.specs.BandRun.{RunInBand}
 use Rattle.uac_bands.specs.BandTransfers.{IsSoundRun}
 use Rattle.uac_bands.proofs.NearLevels.{tell_near}
 use Rattle.uac_bands.proofs.NoneEmpty.{find_none_empty}
-use Rattle.uac_bands.proofs.SoundRuns.{microframes_keep_sound}
+use Rattle.uac_bands.proofs.BandTransfersRunLemmas.{microframes_keep_sound}
 use Rattle.uac_bands.proofs.SteadyRun.{keep_bands}
 use Rattle.uac_overflow.specs.Recording.{AreRecorded, CallsStayRecorded, MicroframesStayRecorded, RunsStartRecorded, TransfersStayRecorded}
 use Rattle.uac_homing.specs.Past.{Pasts, pasts_after}
 use Rattle.uac_homing.specs.Homing.{CallsStayTrailed, HaveTrails, MicroframesStayTrailed, RunsStartTrailed, TransfersStayTrailed}
 use Rattle.uac_steady.proofs.Steps.{microframes_before}
-use Rattle.uac_promises.specs.Watched.{Seen, microframes_seen, watched_in}
+use Rattle.uac_promises.specs.Watches.{Watches, microframe_watches, watch_in}
 use Rattle.uac_promises.specs.Promises.{IsKeptPromise}
 
 -- what is said of one microframe, transfer or call: of rings that have room, and of streams that come home
@@ -45,7 +45,7 @@ IsGoodIn (describing bytes meters) pasts = AreBytes bytes
 IsGoodIn (running r) pasts = IsGoodRun r pasts
 
 -- so it is after what was seen, and all that was seen is as promised
-pub record LeavesKept (next : BusWorld) (seen : Seen) : Type 0 where
+pub record LeavesKept (next : BusWorld) (seen : Watches) : Type 0 where
   pub good : IsGoodIn next seen.pasts
   pub kept : All IsKeptPromise seen.lines
 
@@ -53,13 +53,13 @@ pub record LeavesKept (next : BusWorld) (seen : Seen) : Type 0 where
 
 module _ (laws : LawsOfSteps) where
   -- what is seen of one microframe
-  abbrev microframe_seen : List SaidMark → RunningWorld → Pasts → Seen
+  abbrev microframe_seen : List PhraseMark → RunningWorld → Pasts → Watches
   microframe_seen marks r pasts = record {
-    lines = map (watched_in (running (microframe marks r).world) (pasts_after marks r pasts)) (microframe marks r).lines;
+    lines = map (watch_in (running (microframe marks r).world) (pasts_after marks r pasts)) (microframe marks r).lines;
     pasts = pasts_after marks r pasts;
   }
 
-  microframe_keeps : (marks : List SaidMark) (r : RunningWorld) (pasts : Pasts) → IsGoodRun r pasts
+  microframe_keeps : (marks : List PhraseMark) (r : RunningWorld) (pasts : Pasts) → IsGoodRun r pasts
       → is_steady (microframe marks r).world.history ≡ true
       → LeavesKept (running (microframe marks r).world) (microframe_seen marks r pasts)
   microframe_keeps marks r pasts good steady =
@@ -74,14 +74,14 @@ module _ (laws : LawsOfSteps) where
           recorded = records.stays;
           trails = trails.stays;
         };
-        kept = All-map IsKeptPromise (watched_in (running (microframe marks r).world) (pasts_after marks r pasts)) (microframe marks r).lines
+        kept = All-map IsKeptPromise (watch_in (running (microframe marks r).world) (pasts_after marks r pasts)) (microframe marks r).lines
             (λ k d h. record { no_under = full k d h; no_over = records.no_over k d h; near = near k d h; close = trails.close k d h });
       }
 
-  pub microframes_keep : (marks : List SaidMark) (count : ℕ) (r : RunningWorld) (pasts : Pasts) → IsGoodRun r pasts
+  pub microframes_keep : (marks : List PhraseMark) (count : ℕ) (r : RunningWorld) (pasts : Pasts) → IsGoodRun r pasts
       → is_steady (microframes marks count r).world.history ≡ true
-      → LeavesKept (running (microframes marks count r).world) (microframes_seen marks count r pasts)
-  unfolding microframes microframes_seen
+      → LeavesKept (running (microframes marks count r).world) (microframe_watches marks count r pasts)
+  unfolding microframes microframe_watches
   microframes_keep marks zero r pasts good steady = record { good = good; kept = All-nil IsKeptPromise }
   microframes_keep marks (suc count) r pasts good steady =
       let next : RunningWorld = (microframe marks r).world in
@@ -90,5 +90,5 @@ module _ (laws : LawsOfSteps) where
       record {
         good = rest.good;
         kept = All-append IsKeptPromise (microframe_seen marks r pasts).lines
-            (microframes_seen marks count next (pasts_after marks r pasts)).lines first.kept rest.kept;
+            (microframe_watches marks count next (pasts_after marks r pasts)).lines first.kept rest.kept;
       }

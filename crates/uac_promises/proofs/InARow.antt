@@ -18,7 +18,7 @@ use Rattle.uac_homing.specs.Past.{Pasts, no_pasts}
 use Rattle.uac_steady.specs.Scripts.{IsInBand, is_steady_in}
 use Rattle.uac_steady.proofs.LookingBackwards.{lines_look_back}
 use Rattle.uac_steady.proofs.Beginning.{feeds_bytes}
-use Rattle.uac_promises.specs.Watched.{Watch, and_then_seen, line_seen, microframes_of, seen_after}
+use Rattle.uac_promises.specs.Watches.{Watch, and_then_watches, line_watches, microframes_of, watches_after}
 use Rattle.uac_promises.specs.Promises.{IsKeptPromise, IsRecordedIn, KeepsPromises, OneMoreLineIsKept, SteadyScriptsKeepPromises}
 use Rattle.uac_promises.proofs.SeenLines.{lines_are_seen, said_in}
 use Rattle.uac_promises.proofs.GoodRuns.{IsGoodIn, LawsOfSteps}
@@ -48,21 +48,21 @@ none_more w pasts good = record { band = in_band w pasts good; recorded = in_rin
 abbrev TheRest : List (Result Phrase ℕ) → Type 0
 TheRest saids =
     (next : BusWorld) (later : Pasts) → IsGoodIn next later → is_steady_in (after saids next).world ≡ true
-    → LeavesAll (after saids next).world (seen_after saids next later).lines
+    → LeavesAll (after saids next).world (watches_after saids next later).lines
 
 -- a line, and those after it
 with_first : (saids : List (Result Phrase ℕ)) (w : BusWorld) (pasts : Pasts) → IsGoodIn w pasts
     → (phrase : Phrase) (s : Step) → KeepsAll (microframes_of phrase) w pasts s → TheRest saids
     → is_steady_in (and_then s w (after saids)).world ≡ true
-    → LeavesAll (and_then s w (after saids)).world (and_then_seen s (microframes_of phrase) w pasts (seen_after saids)).lines
+    → LeavesAll (and_then s w (after saids)).world (and_then_watches s (microframes_of phrase) w pasts (watches_after saids)).lines
 with_first saids w pasts good phrase (done next lines) keeps rest h =
-    let seen = line_seen (microframes_of phrase) w next lines pasts in
+    let seen = line_watches (microframes_of phrase) w next lines pasts in
     let leaves = keeps (lines_look_back saids next h) in
     let later = rest next seen.pasts leaves.good h in
     record {
       band = later.band;
       recorded = later.recorded;
-      kept = All-append IsKeptPromise seen.lines (seen_after saids next seen.pasts).lines leaves.kept later.kept;
+      kept = All-append IsKeptPromise seen.lines (watches_after saids next seen.pasts).lines leaves.kept later.kept;
     }
 with_first saids w pasts good phrase (refused fault) keeps rest h = none_more w pasts good
 
@@ -74,14 +74,14 @@ module _ (laws : LawsOfSteps) where
   step_keeps_all phrase (running r) pasts good feed = running_keeps_all laws r pasts good phrase
 
   lines_keep_all : (texts : List (List ℕ)) (saids : List (Result Phrase ℕ)) → AllZip Says texts saids → TheRest saids
-  unfolding after seen_after
+  unfolding after watches_after
   lines_keep_all [] [] say w pasts good steady = none_more w pasts good
   lines_keep_all [] (said ∷ saids) say w pasts good steady = absurd say
   lines_keep_all (text ∷ texts) [] say w pasts good steady = absurd say
   lines_keep_all (text ∷ texts) (said ∷ saids) say w pasts good steady = by said (says_only text said say.0) (lines_keep_all texts saids say.1) steady
     where
       by : (one : Result Phrase ℕ) → one ≡ answer text → TheRest saids → is_steady_in (after (one ∷ saids) w).world ≡ true
-          → LeavesAll (after (one ∷ saids) w).world (seen_after (one ∷ saids) w pasts).lines
+          → LeavesAll (after (one ∷ saids) w).world (watches_after (one ∷ saids) w pasts).lines
       by (Ok phrase) is rest h =
           with_first saids w pasts good phrase (step phrase w)
           (step_keeps_all phrase w pasts good
@@ -103,8 +103,8 @@ all_printed : (P : Said → Type 0) → ((watch : Watch) → IsKeptPromise watch
     → (saids : List (Result Phrase ℕ)) (shown : List Reading) → KeepsPromises saids shown → All P (after saids (start shown)).lines
 all_printed P each saids shown keeps =
     subst (All P) (lines_are_seen saids (start shown) no_pasts)
-    (All-map P said_in (seen_after saids (start shown) no_pasts).lines
-    (All-weaker IsKeptPromise (λ watch. P watch.said) each (seen_after saids (start shown) no_pasts).lines keeps.kept))
+    (All-map P said_in (watches_after saids (start shown) no_pasts).lines
+    (All-weaker IsKeptPromise (λ watch. P watch.said) each (watches_after saids (start shown) no_pasts).lines keeps.kept))
 
 -- what holds of lines one after the other holds of the later
 latter : (P : Said → Type 0) (front back : List Said) → All P (front ++ back) → All P back

@@ -10,8 +10,8 @@ use Rattle.uac_request.specs.declared.setup.Setup.{Setup}
 use Rattle.uac_mixer.specs.MixerElements.{fits_element}
 use Rattle.uac_script.specs.Phrase.{Phrase, nothing_line, bytes_line, go_line, control_line, get_line, set_line, show_line, break_line, append_line, track_line, jack_line, deviate_line, microframes_line, detail_line, report_line}
 use Rattle.uac_transcript.specs.Transcript.{Said, says_answer, says_view}
-use Rattle.uac_running.specs.RunningWorld.{RunningWorld, with_detail, with_deviation, with_samples_on, with_tone, with_track}
-use Rattle.uac_running.specs.RunningNames.{size_of}
+use Rattle.uac_running.specs.RunningWorld.{RunningWorld, with_detail, with_deviation, with_samples_on, with_jack_tone, with_track}
+use Rattle.uac_running.specs.RunningNames.{natural_of_int}
 use Rattle.uac_running.specs.RunningLines.{report_lines}
 use Rattle.uac_running.specs.RunningTransfers.{element_named, read_element, set_element, show_element, transfer, after_transfer, with_break}
 use Rattle.uac_bus.specs.declared.fault.BusFault.{BusFault}
@@ -19,23 +19,23 @@ use Rattle.uac_bus.specs.BusWorld.{Step, BusWorld, done, refused, running, step_
 use Rattle.uac_bands.proofs.Begun.{calls_keep_bands}
 use Rattle.uac_bands.proofs.LookingBack.{calls_look_back}
 use Rattle.uac_bands.proofs.Transferred.{transfers_keep_bands}
-use Rattle.uac_bands.proofs.SoundRuns.{calls_keep_sound}
-use Rattle.uac_bands.proofs.SoundTransfers.{transfers_keep_sound}
+use Rattle.uac_bands.proofs.BandTransfersRunLemmas.{calls_keep_sound}
+use Rattle.uac_bands.proofs.BandTransfersLemmas.{transfers_keep_sound}
 use Rattle.uac_homing.specs.Past.{Pasts}
 use Rattle.uac_steady.specs.Scripts.{is_steady_in}
 use Rattle.uac_steady.proofs.Steps.{appended, framed, gone_on, off, on_element_is, reads, set_to, shown, toned, tracked, unless_is}
-use Rattle.uac_promises.specs.Watched.{Microframes, line_seen, microframes_of}
+use Rattle.uac_promises.specs.Watches.{Microframes, line_watches, microframes_of}
 use Rattle.uac_promises.proofs.PlainLines.{IsPlain, one_plain, plain_lines_kept, report_plain}
 use Rattle.uac_promises.proofs.GoodRuns.{IsGoodIn, IsGoodRun, LawsOfSteps, LeavesKept, microframes_keep}
 
 -- a line that was done leaves a good world and kept all promises, where what was given is steady after it
 abbrev pub KeepsAll : Option Microframes → BusWorld → Pasts → Step → Type 0
-KeepsAll m w pasts (done next lines) = is_steady_in next ≡ true → LeavesKept next (line_seen m w next lines pasts)
+KeepsAll m w pasts (done next lines) = is_steady_in next ≡ true → LeavesKept next (line_watches m w next lines pasts)
 KeepsAll m w pasts (refused fault) = Unit {0}
 
 pub leaves_plain : (w next : BusWorld) (pasts : Pasts) (lines : List Said) → IsGoodIn next pasts → All IsPlain lines
-    → LeavesKept next (line_seen None w next lines pasts)
-unfolding line_seen
+    → LeavesKept next (line_watches None w next lines pasts)
+unfolding line_watches
 leaves_plain w next pasts lines good plain = record { good = good; kept = plain_lines_kept next pasts lines plain }
 
 module _ (laws : LawsOfSteps) (r : RunningWorld) (pasts : Pasts) (good : IsGoodRun r pasts) where
@@ -47,10 +47,10 @@ module _ (laws : LawsOfSteps) (r : RunningWorld) (pasts : Pasts) (good : IsGoodR
   no_step fault = tt
 
   printing : (lines : List Said) → (next : RunningWorld) → IsGoodRun next pasts → All IsPlain lines
-      → LeavesKept (running next) (line_seen None (running r) (running next) lines pasts)
+      → LeavesKept (running next) (line_watches None (running r) (running next) lines pasts)
   printing lines next = leaves_plain (running r) (running next) pasts lines
 
-  silent : (next : RunningWorld) → IsGoodRun next pasts → LeavesKept (running next) (line_seen None (running r) (running next) [] pasts)
+  silent : (next : RunningWorld) → IsGoodRun next pasts → LeavesKept (running next) (line_watches None (running r) (running next) [] pasts)
   silent next goes_on = printing [] next goes_on (All-nil IsPlain)
 
   transfer_following : (p : Setup) (bytes : List ℕ) → IsGoodRun (after_transfer p bytes r) pasts
@@ -61,7 +61,7 @@ module _ (laws : LawsOfSteps) (r : RunningWorld) (pasts : Pasts) (good : IsGoodR
     trails = laws.transfers_trailed p bytes r pasts good.band good.sound good.trails;
   }
 
-  after_tone : (terminal : ℕ) (tone : Tone) → IsGoodRun (with_tone terminal tone r) pasts
+  after_tone : (terminal : ℕ) (tone : Tone) → IsGoodRun (with_jack_tone terminal tone r) pasts
   after_tone terminal tone = record {
     band = (calls_keep_bands r good.band).tone terminal tone;
     sound = (calls_keep_sound r good.sound).tone terminal tone;
@@ -110,7 +110,7 @@ module _ (laws : LawsOfSteps) (r : RunningWorld) (pasts : Pasts) (good : IsGoodR
   }
 
   pub running_keeps_all : (phrase : Phrase) → KeepsAll (microframes_of phrase) (running r) pasts (step_running r phrase)
-  unfolding line_seen transfer read_element set_element show_element
+  unfolding line_watches transfer read_element set_element show_element
   running_keeps_all nothing_line = λ h. silent r good
   running_keeps_all (bytes_line more) = tt
   running_keeps_all go_line = tt
@@ -129,16 +129,16 @@ module _ (laws : LawsOfSteps) (r : RunningWorld) (pasts : Pasts) (good : IsGoodR
   running_keeps_all (break_line after) = λ h. silent _ (after_break after)
   running_keeps_all (append_line number samples) =
       unless_is Keeps no_step _ 6 (framed r number samples)
-      (unless_is Keeps no_step _ 7 (appended r number samples) (λ h. silent _ (after_samples (size_of number) samples)))
-  running_keeps_all (track_line number voice) =
-      unless_is Keeps no_step _ 6 (tracked r number voice) (λ h. silent _ (after_track (size_of number) (tone_of voice)))
-  running_keeps_all (jack_line terminal voice) =
-      unless_is Keeps no_step _ 6 (toned r terminal voice) (λ h. silent _ (after_tone (size_of terminal) (tone_of voice)))
+      (unless_is Keeps no_step _ 7 (appended r number samples) (λ h. silent _ (after_samples (natural_of_int number) samples)))
+  running_keeps_all (track_line number tone) =
+      unless_is Keeps no_step _ 6 (tracked r number tone) (λ h. silent _ (after_track (natural_of_int number) (tone_of tone)))
+  running_keeps_all (jack_line terminal tone) =
+      unless_is Keeps no_step _ 6 (toned r terminal tone) (λ h. silent _ (after_tone (natural_of_int terminal) (tone_of tone)))
   running_keeps_all (deviate_line clock ppm) =
       unless_is Keeps no_step _ 6 (off r clock ppm)
-      (λ h. silent _ (deviation_following (size_of clock) ppm ((calls_look_back r).deviation (size_of clock) ppm h).0))
+      (λ h. silent _ (deviation_following (natural_of_int clock) ppm ((calls_look_back r).deviation (natural_of_int clock) ppm h).0))
   running_keeps_all (microframes_line count marks) =
       unless_is (KeepsAll (microframes_of (microframes_line count marks)) (running r) pasts) (λ fault. tt) _ 6 (gone_on r count marks)
-      (microframes_keep laws marks (size_of count) r pasts good)
-  running_keeps_all (detail_line level) = λ h. silent _ (after_detail (size_of level))
+      (microframes_keep laws marks (natural_of_int count) r pasts good)
+  running_keeps_all (detail_line level) = λ h. silent _ (after_detail (natural_of_int level))
   running_keeps_all report_line = λ h. printing (report_lines r) r good (report_plain r)

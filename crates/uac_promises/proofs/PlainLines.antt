@@ -12,7 +12,7 @@ use Rattle.uac_running.specs.RunningWorld as world
 use Rattle.uac_running.specs.RunningLines.{domain_line, report_lines, says_stream, stream_line}
 use Rattle.uac_bus.specs.BusWorld.{BusWorld, describing, running}
 use Rattle.uac_homing.specs.Past.{Pasts}
-use Rattle.uac_promises.specs.Watched.{watched_in}
+use Rattle.uac_promises.specs.Watches.{watch_in}
 use Rattle.uac_promises.specs.Promises.{IsCloseIn, IsKeptPromise}
 
 -- ---- such a line
@@ -33,7 +33,7 @@ plain_close : (w : BusWorld) (pasts : Pasts) (said : Said) → IsPlain said → 
 plain_close (describing bytes meters) pasts said plain = tt
 plain_close (running r) pasts said plain = λ interface level target o same out. absurd (not_plain said _ plain refl same)
 
-plain_kept : (w : BusWorld) (pasts : Pasts) (said : Said) → IsPlain said → IsKeptPromise (watched_in w pasts said)
+plain_kept : (w : BusWorld) (pasts : Pasts) (said : Said) → IsPlain said → IsKeptPromise (watch_in w pasts said)
 plain_kept w pasts said plain = record {
   no_under = λ interface same. not_plain said (says_under interface) plain refl same;
   no_over = λ interface same. not_plain said (says_over interface) plain refl same;
@@ -41,10 +41,10 @@ plain_kept w pasts said plain = record {
   close = plain_close w pasts said plain;
 }
 
-pub plain_lines_kept : (w : BusWorld) (pasts : Pasts) (lines : List Said) → All IsPlain lines → All IsKeptPromise (map (watched_in w pasts) lines)
+pub plain_lines_kept : (w : BusWorld) (pasts : Pasts) (lines : List Said) → All IsPlain lines → All IsKeptPromise (map (watch_in w pasts) lines)
 plain_lines_kept w pasts lines plain =
-    All-map IsKeptPromise (watched_in w pasts) lines
-    (All-weaker IsPlain (λ said. IsKeptPromise (watched_in w pasts said)) (plain_kept w pasts) lines plain)
+    All-map IsKeptPromise (watch_in w pasts) lines
+    (All-weaker IsPlain (λ said. IsKeptPromise (watch_in w pasts said)) (plain_kept w pasts) lines plain)
 
 -- ---- the lines that are printed between microframes
 

@@ -12,7 +12,7 @@ use Rattle.uac_overflow.specs.Recording.{AreRecorded, IsNoOver}
 use Rattle.uac_homing.specs.Past.{Pasts, no_pasts}
 use Rattle.uac_homing.specs.Homing.{IsClose}
 use Rattle.uac_steady.specs.Scripts.{IsInBand, is_steady_in}
-use Rattle.uac_promises.specs.Watched.{Watch, seen_after}
+use Rattle.uac_promises.specs.Watches.{Watch, watches_after}
 
 -- a level is close in a world
 abbrev pub IsCloseIn : BusWorld → Pasts → Said → Type 0
@@ -37,14 +37,14 @@ IsRecordedIn (running r) = AreRecorded r
 abbrev pub LinesAreSeen : Type 0
 LinesAreSeen =
     (saids : List (Result Phrase ℕ)) (w : BusWorld) (pasts : Pasts)
-    → map (λ watch. watch.said) (seen_after saids w pasts).lines ≡ (after saids w).lines
+    → map (λ watch. watch.said) (watches_after saids w pasts).lines ≡ (after saids w).lines
 
 -- what the lines of a script said, which leave a steady world: each stream is in its band there, and every line that they printed is as
 -- promised
 pub record KeepsPromises (saids : List (Result Phrase ℕ)) (shown : List Reading) : Type 0 where
   pub band : IsInBand (after saids (start shown)).world
   pub recorded : IsRecordedIn (after saids (start shown)).world
-  pub kept : All IsKeptPromise (seen_after saids (start shown) no_pasts).lines
+  pub kept : All IsKeptPromise (watches_after saids (start shown) no_pasts).lines
 
 -- so it is for every list of lines, by what each says
 abbrev pub SteadyScriptsKeepPromises : Type 0

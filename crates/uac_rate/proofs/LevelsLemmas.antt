@@ -5,10 +5,10 @@ use Rattle.std.proofs.lemmas.Bool.{cases_lt, leb-true}
 use Rattle.std.proofs.Math.Bool.{and-true}
 use Rattle.std.proofs.lemmas.Nat.{mul-le}
 use Rattle.uac_clock.specs.declared.values.Nominal.{Nominal}
-use Rattle.uac_clock.specs.Nominal.{HasRoom, IsNominal, is_listed, values_of, nominal_of, step_of}
+use Rattle.uac_clock.specs.Nominal.{StaysBetweenWholes, IsNominal, is_listed, values_of, nominal_of, step_of}
 use Rattle.uac_rate.specs.Reports.{report_of}
 use Rattle.uac_rate.specs.Steadiness.{is_slight}
-use Rattle.uac_rate.specs.Levels.{HasBand, IsInterval, AreIntervals, Point, Within, level_and_remainder, target_and_remainder, since, came_of, Interval, value_after, TakesReport, IsLow, IsHigh, IsTarget, IsCounted, IsRobust, Anchor, anchor_of, anchor_after_interval, anchor_after, tight_bound, HasDrifted, IsTight, IsJustPrimed, IsPriming, Fills, Moment, IsSafeLevel, FallsDue}
+use Rattle.uac_rate.specs.Levels.{HasBand, IsInterval, AreIntervals, Point, Within, level_and_remainder, target_and_remainder, since, frames_came, Interval, value_after, TakesReport, IsLow, IsHigh, IsTarget, IsCounted, IsRobust, Anchor, anchor_of, anchor_after_interval, anchor_after, tight_bound, HasDrifted, IsTight, IsJustPrimed, IsPriming, Fills, Moment, IsSafeLevel, FallsDue}
 
 -- an interval has 1 to 8 microframes
 pub interval_size : (n : ℕ) → IsInterval n → (1 ≤ n) × (n ≤ 8)
@@ -74,14 +74,14 @@ interval_low values band service period packet_lost p q facts i robust (inl far)
     let b = bounds values band service period packet_lost p q facts i robust.counted robust.least robust.most in
     let later = since_interval values service period packet_lost p q i in
     inl (from packet_lost i.level_is) where
-      from : (lost : Bool) → q.level + i.ticks ≡ p.level + came_of lost i.sent i.ticks → q.target ≤ q.level + band + 2 * since period q
+      from : (lost : Bool) → q.level + i.ticks ≡ p.level + frames_came lost i.sent i.ticks → q.target ≤ q.level + band + 2 * since period q
       from false level =
           let b = bounds values band service period packet_lost p q facts i robust.counted robust.least robust.most in
           let later = since_interval values service period packet_lost p q i in
           omega arith
       from true level = let later = since_interval values service period packet_lost p q i in omega arith
 interval_low values band service period packet_lost p q facts i robust (inr held) = inr (from packet_lost i.level_is, i.value_is ∙ held.1) where
-  from : (lost : Bool) → q.level + i.ticks ≡ p.level + came_of lost i.sent i.ticks → q.target ≤ q.level + band + 64
+  from : (lost : Bool) → q.level + i.ticks ≡ p.level + frames_came lost i.sent i.ticks → q.target ≤ q.level + band + 64
   from false level =
       let b = bounds values band service period packet_lost p q facts i robust.counted robust.least robust.most in
       let greatest : values.hi * 65536 ≤ p.value = omega arith in
@@ -93,14 +93,14 @@ interval_high : (values : Nominal) (band service period : ℕ) (packet_lost : Bo
     → HasBand values band → Interval values service period packet_lost p q → IsRobust values band service period p
     → IsHigh values band period p → IsHigh values band period q
 interval_high values band service period packet_lost p q facts i robust (inl far) = inl (from packet_lost i.level_is) where
-  from : (lost : Bool) → q.level + i.ticks ≡ p.level + came_of lost i.sent i.ticks → q.level ≤ q.target + band + 2 * since period q
+  from : (lost : Bool) → q.level + i.ticks ≡ p.level + frames_came lost i.sent i.ticks → q.level ≤ q.target + band + 2 * since period q
   from false level =
       let b = bounds values band service period packet_lost p q facts i robust.counted robust.least robust.most in
       let later = since_interval values service period packet_lost p q i in
       omega arith
   from true level = let later = since_interval values service period packet_lost p q i in omega arith
 interval_high values band service period packet_lost p q facts i robust (inr held) = inr (from packet_lost i.level_is, i.value_is ∙ held.1) where
-  from : (lost : Bool) → q.level + i.ticks ≡ p.level + came_of lost i.sent i.ticks → q.level ≤ q.target + band + 64
+  from : (lost : Bool) → q.level + i.ticks ≡ p.level + frames_came lost i.sent i.ticks → q.level ≤ q.target + band + 64
   from false level =
       let b = bounds values band service period packet_lost p q facts i robust.counted robust.least robust.most in
       let least : p.value ≤ values.lo * 65536 = omega arith in
@@ -373,7 +373,7 @@ primed_tight values band service period p facts primed = record {
 }
 
 -- what a ring holds at some moment
-pub moment_held : (values : Nominal) (service period : ℕ) (p : Point) (held : ℕ) → HasRoom values → AreIntervals service period
+pub moment_held : (values : Nominal) (service period : ℕ) (p : Point) (held : ℕ) → StaysBetweenWholes values → AreIntervals service period
     → IsRobust values 65 service period p → Moment values service p held → IsSafeLevel service held
 moment_held values service period p held room intervals robust m = record {
   single = λ one.
@@ -400,7 +400,7 @@ moment_held values service period p held room intervals robust m = record {
   came (inr zeros) = omega (arith, ticked)
 
 -- what comes while a stream is priming
-pub filled : (values : Nominal) (service least before after : ℕ) → HasRoom values → IsInterval service → IsPriming service least
+pub filled : (values : Nominal) (service least before after : ℕ) → StaysBetweenWholes values → IsInterval service → IsPriming service least
     → before < least → least ≤ after → Fills values service before after → IsTarget service after
 filled values service least before after room serves priming low reached fills = record {
   single = λ one.
@@ -477,7 +477,7 @@ by_formula values h = from (is_listed h.0) h.1 where
   from true e = subst AreByFormula (let same : values_of h.0 ≡ values = cc in same) (record { e = refl; lo = refl; hi = refl })
 
 -- each of the twelve rates has the band of 65 frames
-pub rates_band : (values : Nominal) → IsNominal values → HasRoom values → HasBand values 65
+pub rates_band : (values : Nominal) → IsNominal values → StaysBetweenWholes values → HasBand values 65
 rates_band values h room =
     let formulas = by_formula values h in
     record { below = room.below; above = room.above; apart = room.apart; up = omega arith; down = omega arith }
@@ -502,7 +502,7 @@ pub whole_packets : (values : Nominal) (microframes host value : ℕ) → host <
 whole_packets values microframes host value below least most =
     (paced_least microframes host value values.lo least, paced_most microframes host value values.hi below most)
 
-pub whole_ticks : (values : Nominal) (microframes clock steps : ℕ) → HasRoom values → clock < 65536
+pub whole_ticks : (values : Nominal) (microframes clock steps : ℕ) → StaysBetweenWholes values → clock < 65536
     → Within (microframes * values.e) steps (microframes * values.f)
     → (microframes * values.lo ≤ (clock + steps) / 65536) × ((clock + steps) / 65536 ≤ microframes * values.hi)
 whole_ticks values microframes clock steps room below slight = (

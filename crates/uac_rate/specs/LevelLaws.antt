@@ -2,7 +2,7 @@
 use Rattle.std.specs.Prelude.{◌≡◌, ℕ, suc, ◌+◌, ◌-◌, ◌*◌, ◌%◌, ◌<◌, ◌≤◌, ◌/◌, Bool, true, false, ℤ, List, [], ◌∷◌, ◌++◌, length, sum}
 use Rattle.std.specs.List.{AllByRecursion}
 use Rattle.uac_clock.specs.declared.values.Nominal.{Nominal}
-use Rattle.uac_clock.specs.Nominal.{IsNominal, HasRoom, step_of}
+use Rattle.uac_clock.specs.Nominal.{IsNominal, StaysBetweenWholes, step_of}
 use Rattle.uac_rate.specs.PacketSizes.{frames_in_packet}
 use Rattle.uac_rate.specs.Steadiness.{is_slight}
 use Rattle.uac_rate.specs.Levels.{HasBand, AreIntervals, Point, Within, level_and_remainder, target_and_remainder, Interval, TakesReport}
@@ -12,7 +12,7 @@ use Rattle.uac_rate.specs.Levels.{IsSafeLevel, FallsDue}
 
 -- each of the twelve rates has room, and a band of 65 frames
 abbrev pub RatesHaveBands : Type 0
-RatesHaveBands = (values : Nominal) → IsNominal values → HasRoom values × HasBand values 65
+RatesHaveBands = (values : Nominal) → IsNominal values → StaysBetweenWholes values × HasBand values 65
 
 -- a packet of one microframe more has that microframe's frames more
 abbrev pub PacketsAddUp : Type 0
@@ -46,7 +46,7 @@ PacketsAreWhole =
 
 abbrev pub TicksAreWhole : Type 0
 TicksAreWhole =
-    (values : Nominal) (microframes clock steps : ℕ) → HasRoom values → clock < 65536
+    (values : Nominal) (microframes clock steps : ℕ) → StaysBetweenWholes values → clock < 65536
     → Within (microframes * values.e) steps (microframes * values.f)
     → (microframes * values.lo ≤ (clock + steps) / 65536) × ((clock + steps) / 65536 ≤ microframes * values.hi)
 
@@ -98,19 +98,21 @@ RobustIsNear =
 
 abbrev pub TightIsNear : Type 0
 TightIsNear =
-    (values : Nominal) (service period : ℕ) (anchor : Anchor) (p : Point) → HasRoom values → HasBand values 65 → AreIntervals service period
+    (values : Nominal) (service period : ℕ) (anchor : Anchor) (p : Point) → StaysBetweenWholes values → HasBand values 65
+    → AreIntervals service period
     → IsTight values period anchor p → Within 3 p.level p.target
 
 -- what a primed ring holds at every moment
 abbrev pub RingsHoldEnough : Type 0
 RingsHoldEnough =
-    (values : Nominal) (service period : ℕ) (p : Point) (held : ℕ) → HasRoom values → AreIntervals service period
+    (values : Nominal) (service period : ℕ) (p : Point) (held : ℕ) → StaysBetweenWholes values → AreIntervals service period
     → IsRobust values 65 service period p → Moment values service p held → IsSafeLevel service held
 
 -- a stream is primed at a level in its range: it was below the least one until a packet came at the nominal value, or an interval's zeros
 abbrev pub PrimedInRange : Type 0
 PrimedInRange =
-    (values : Nominal) (service period least before after : ℕ) → HasRoom values → AreIntervals service period → IsPriming service least
+    (values : Nominal) (service period least before after : ℕ) → StaysBetweenWholes values → AreIntervals service period
+    → IsPriming service least
     → before < least → least ≤ after → Fills values service before after → IsTarget service after
 
 -- and it is robust and tight then

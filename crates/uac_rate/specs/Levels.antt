@@ -53,9 +53,9 @@ abbrev pub since : ℕ → Point → ℕ
 since period p = p.lost * period + p.waited
 
 -- the frames that come in an interval: those of the packet; where it is lost, a zero frame for each tick
-abbrev pub came_of : Bool → ℕ → ℕ → ℕ
-came_of false sent ticks = sent
-came_of true sent ticks = ticks
+abbrev pub frames_came : Bool → ℕ → ℕ → ℕ
+frames_came false sent ticks = sent
+frames_came true sent ticks = ticks
 
 -- a service interval, in which no report fell due before its end, with the sum of the clock's steps, each off by at most a thousandth
 pub record Interval (values : Nominal) (service period : ℕ) (packet_lost : Bool) (p q : Point) : Type 0 where
@@ -67,7 +67,7 @@ pub record Interval (values : Nominal) (service period : ℕ) (packet_lost : Boo
   pub ticks : ℕ
   pub ticks_is : ticks ≡ (p.clock + steps) / 65536
   pub clock_is : q.clock ≡ (p.clock + steps) % 65536
-  pub level_is : q.level + ticks ≡ p.level + came_of packet_lost sent ticks
+  pub level_is : q.level + ticks ≡ p.level + frames_came packet_lost sent ticks
   pub target_is : q.target ≡ p.target
   pub value_is : q.value ≡ p.value
   pub waited_is : q.waited ≡ p.waited + service

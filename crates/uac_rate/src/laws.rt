@@ -22,7 +22,7 @@ pub fn packets_add_up()
 {}
 
 /// A report is the nominal value and 1,024 for each frame that the level is below the target, over the integers, and held.
-pub fn reports_are_held_sums()
+pub fn reports_are_clamped_sums()
     ensures { ReportsOverIntegers }
 {}
 

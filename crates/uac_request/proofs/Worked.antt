@@ -12,7 +12,7 @@ use Rattle.uac_clock.specs.Nominal.{nominal_of, values_of}
 use Rattle.uac_gain.specs.Gain.{decibel_gain, raised_gain}
 use Rattle.uac_topology.specs.Function.{FunctionFields}
 use Rattle.uac_store.specs.Keyed.{key_of, value_of, with_value}
-use Rattle.uac_store.specs.StoreControls.{channels_at, controls_of, count_of, first_channels, has_on, initial_controls, start_of, takes, takes_on}
+use Rattle.uac_store.specs.StoreControls.{channel_controls, controls_of, count_of, first_channels, has_on, initial_controls, start_of, takes, takes_on}
 use Rattle.uac_store.specs.Rates.{rate_of, rate_step, rate_within, source_rate}
 use Rattle.uac_store.specs.Selectors.{CS_SAM_FREQ_CONTROL, CS_CLOCK_VALID_CONTROL, CX_CLOCK_SELECTOR_CONTROL, CM_NUMERATOR_CONTROL, CM_DENOMINATOR_CONTROL, TE_CONNECTOR_CONTROL, MU_MIXER_CONTROL, SU_SELECTOR_CONTROL, FU_MUTE_CONTROL, FU_VOLUME_CONTROL, EU_ENABLE_CONTROL}
 use Rattle.uac_store.specs.StoreValues.{are_clocked, is_legal, ranges_of}
@@ -129,7 +129,7 @@ range_whole = refl
 
 -- a setting's map and the active setting of interface 1
 valid_settings : first (161 ∷ 1 ∷ 0 ∷ 2 ∷ 1 ∷ 0 ∷ 2 ∷ 0 ∷ []) [] ≡ with_bytes (1 ∷ 3 ∷ [])
-unfolding first at_start reply_of headset owner_of entities entity_by_id unbroken_reply cur_bytes valid_bytes is_valid stream_of stream_at can_run linked_channels channels_of rate_of rate_within rate_step source_rate value_of initial_controls controls_of channels_at first_channels count_of start_of nominal_of values_of first_broken breaks_q1 breaks_q2 breaks_q3 breaks_q4 breaks_q5 breaks_q6 breaks_q7 breaks_q8 breaks_q9 breaks_q10 breaks_q11 breaks_q12
+unfolding first at_start reply_of headset owner_of entities entity_by_id unbroken_reply cur_bytes valid_bytes is_valid stream_of stream_at can_run linked_channels channels_of rate_of rate_within rate_step source_rate value_of initial_controls controls_of channel_controls first_channels count_of start_of nominal_of values_of first_broken breaks_q1 breaks_q2 breaks_q3 breaks_q4 breaks_q5 breaks_q6 breaks_q7 breaks_q8 breaks_q9 breaks_q10 breaks_q11 breaks_q12
 valid_settings = refl
 
 active_setting : first (161 ∷ 1 ∷ 0 ∷ 1 ∷ 1 ∷ 0 ∷ 1 ∷ 0 ∷ []) [] ≡ with_bytes (0 ∷ [])
@@ -167,12 +167,12 @@ started : RequestState
 started = after_request (headset 150) at_start (setup_of (1 ∷ 11 ∷ 1 ∷ 0 ∷ 1 ∷ 0 ∷ 0 ∷ 0 ∷ [])) []
 
 runs : setting_of started.settings 1 ≡ Some 1
-unfolding started after_request at_start headset has_setting is_valid stream_of stream_at can_run linked_channels channels_of entities entity_by_id rate_of rate_within rate_step source_rate value_of initial_controls controls_of channels_at first_channels count_of start_of nominal_of values_of left_by setting_of with_setting initial_settings first_broken breaks_q1 breaks_q2 breaks_q3 breaks_q4 breaks_q5 breaks_q6 breaks_q7 breaks_q8 breaks_q9 breaks_q10 breaks_q11 breaks_q12
+unfolding started after_request at_start headset has_setting is_valid stream_of stream_at can_run linked_channels channels_of entities entity_by_id rate_of rate_within rate_step source_rate value_of initial_controls controls_of channel_controls first_channels count_of start_of nominal_of values_of left_by setting_of with_setting initial_settings first_broken breaks_q1 breaks_q2 breaks_q3 breaks_q4 breaks_q5 breaks_q6 breaks_q7 breaks_q8 breaks_q9 breaks_q10 breaks_q11 breaks_q12
 runs = refl
 
 -- while it runs, its clock's rate can't change
 rate_held : reply_of (headset 150) started (setup_of (33 ∷ 1 ∷ 0 ∷ 1 ∷ 0 ∷ 1 ∷ 4 ∷ 0 ∷ [])) (68 ∷ 172 ∷ 0 ∷ 0 ∷ []) ≡ is_stalled 10
-unfolding reply_of started after_request at_start headset has_setting is_valid stream_of stream_at can_run linked_channels channels_of entities entity_by_id owner_of value_from is_legal takes takes_on are_clocked with_value rate_of rate_within rate_step source_rate value_of initial_controls controls_of channels_at first_channels count_of start_of nominal_of values_of left_by setting_of with_setting initial_settings first_broken breaks_q1 breaks_q2 breaks_q3 breaks_q4 breaks_q5 breaks_q6 breaks_q7 breaks_q8 breaks_q9 breaks_q10 breaks_q11 breaks_q12
+unfolding reply_of started after_request at_start headset has_setting is_valid stream_of stream_at can_run linked_channels channels_of entities entity_by_id owner_of value_from is_legal takes takes_on are_clocked with_value rate_of rate_within rate_step source_rate value_of initial_controls controls_of channel_controls first_channels count_of start_of nominal_of values_of left_by setting_of with_setting initial_settings first_broken breaks_q1 breaks_q2 breaks_q3 breaks_q4 breaks_q5 breaks_q6 breaks_q7 breaks_q8 breaks_q9 breaks_q10 breaks_q11 breaks_q12
 rate_held = refl
 
 -- an endpoint of 144 bytes is too small at 192,000 Hz
@@ -180,7 +180,7 @@ fast : RequestState
 fast = after_request (headset 144) at_start (setup_of (33 ∷ 1 ∷ 0 ∷ 1 ∷ 0 ∷ 1 ∷ 4 ∷ 0 ∷ [])) (0 ∷ 238 ∷ 2 ∷ 0 ∷ [])
 
 too_small : reply_of (headset 144) fast (setup_of (1 ∷ 11 ∷ 1 ∷ 0 ∷ 1 ∷ 0 ∷ 0 ∷ 0 ∷ [])) [] ≡ is_stalled 12
-unfolding reply_of fast after_request at_start headset has_setting is_valid stream_of stream_at can_run linked_channels channels_of entities entity_by_id owner_of value_from is_legal takes takes_on are_clocked with_value rate_of rate_within rate_step source_rate value_of initial_controls controls_of channels_at first_channels count_of start_of nominal_of values_of left_by setting_of with_setting initial_settings first_broken breaks_q1 breaks_q2 breaks_q3 breaks_q4 breaks_q5 breaks_q6 breaks_q7 breaks_q8 breaks_q9 breaks_q10 breaks_q11 breaks_q12
+unfolding reply_of fast after_request at_start headset has_setting is_valid stream_of stream_at can_run linked_channels channels_of entities entity_by_id owner_of value_from is_legal takes takes_on are_clocked with_value rate_of rate_within rate_step source_rate value_of initial_controls controls_of channel_controls first_channels count_of start_of nominal_of values_of left_by setting_of with_setting initial_settings first_broken breaks_q1 breaks_q2 breaks_q3 breaks_q4 breaks_q5 breaks_q6 breaks_q7 breaks_q8 breaks_q9 breaks_q10 breaks_q11 breaks_q12
 too_small = refl
 
 -- ---- values as bytes, both ways
@@ -323,5 +323,5 @@ nine_settings =
     }
 
 two_byte_map : valid_bytes (record (headset 150) { streams = nine_settings ∷ [] }) (initial_controls entities) nine_settings ≡ 2 ∷ 3 ∷ 1 ∷ []
-unfolding nine_settings valid_bytes is_valid stream_of stream_at can_run linked_channels channels_of headset entities entity_by_id rate_of rate_within rate_step source_rate value_of initial_controls controls_of channels_at first_channels count_of start_of nominal_of values_of
+unfolding nine_settings valid_bytes is_valid stream_of stream_at can_run linked_channels channels_of headset entities entity_by_id rate_of rate_within rate_step source_rate value_of initial_controls controls_of channel_controls first_channels count_of start_of nominal_of values_of
 two_byte_map = refl

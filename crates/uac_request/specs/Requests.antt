@@ -359,6 +359,13 @@ pub data AnswerFields : Type 0 where
   is_done : AnswerFields
   is_stalled : ℕ → AnswerFields
 
+-- whether the answer is that the request is done
+abbrev pub is_done_answer : AnswerFields → Bool
+is_done_answer (with_bytes bytes) = false
+is_done_answer (with_descriptor from to) = false
+is_done_answer is_done = true
+is_done_answer (is_stalled rule) = false
+
 -- an answer as what it tells
 abbrev pub answer_fields : Answer → AnswerFields
 answer_fields (told.Bytes reply) = with_bytes reply.items

@@ -5,7 +5,7 @@ use std::mem::size_of;
 use uac_pcm::Frame;
 
 /// A frame of two channels that tells its number.
-fn numbered(number: u32) -> Frame {
+fn frame_with(number: u32) -> Frame {
     let left = number.cast_signed();
     let mut frame: Frame = ArrayVec::new();
     frame.push(left);
@@ -19,14 +19,14 @@ fn frames_leave_in_the_order_in_which_they_came(rt: HostRuntime) {
     assert_eq!(rt; ring.level(), 0);
     assert!(rt; ring.take().is_none());
     for number in 0..RING_FRAMES {
-        assert!(rt; ring.put(&numbered(number)).is_ok());
+        assert!(rt; ring.put(&frame_with(number)).is_ok());
     }
     assert_eq!(rt; ring.level(), 2048);
-    assert_eq!(rt; ring.put(&numbered(7)), Err(Full));
+    assert_eq!(rt; ring.put(&frame_with(7)), Err(Full));
     assert_eq!(rt; ring.level(), 2048);
     for number in 0..RING_FRAMES {
         let frame = ring.take().expect(&rt, "a frame that was put");
-        assert_eq!(rt; frame.as_slice(), numbered(number).as_slice());
+        assert_eq!(rt; frame.as_slice(), frame_with(number).as_slice());
     }
     assert_eq!(rt; ring.level(), 0);
     assert!(rt; ring.take().is_none());

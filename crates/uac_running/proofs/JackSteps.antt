@@ -15,7 +15,7 @@ use Rattle.uac_running.specs.declared.jacks.Jack.{Jack}
 use Rattle.uac_running.specs.Events.{after_one, after_jacks, after_jack, jacks_after_frame, next_frame}
 use Rattle.uac_running.specs.RunningWorld.{jack_with_tone}
 use Rattle.uac_device.proofs.DeviceKeptLemmas.{all_changed}
-use Rattle.uac_lanes.proofs.Turning.{IsTurnedBelow, untouched}
+use Rattle.uac_device_streams.proofs.Turning.{IsTurnedBelow, untouched}
 use Rattle.uac_running.specs.RunningKept.{HasItsJacks, RunningFields}
 
 -- one jack more

@@ -18,7 +18,7 @@ use Rattle.uac_store.specs.Rates.{rate_of}
 use Rattle.uac_alt.specs.AltSettings.{setting_of}
 use Rattle.uac_alt.specs.declared.settings.InterfaceSetting.{InterfaceSetting}
 use Rattle.uac_units.specs.Hearing.{Reading}
-use Rattle.uac_units.specs.declared.hearing.MeterKind.{MeterKind}
+use Rattle.uac_units.specs.declared.meter.MeterKind.{MeterKind}
 use Rattle.uac_graph.specs.Meaning.{entity}
 use Rattle.uac_graph.specs.Needs.{is_end}
 use Rattle.uac_graph.proofs.FromRules.{sound_graph}
@@ -143,7 +143,7 @@ meter_at shown i d k v h kind value =
 
 -- an interface of these is found by its number
 pub place_there : (f : FunctionFields) (items : List StreamInterface) (i : ℕ) (s d : StreamInterface) → items ≡ f.streams → i < length items → s ≡ get_or items i d
-    → (place : ℕ) × (streams.place_of f s.number ≡ Some place)
+    → (place : ℕ) × (streams.stream_index f s.number ≡ Some place)
 place_there f items i s d same below is =
     let xs = f.streams in
     let p : StreamInterface → Bool = λ x. x.number == s.number in

@@ -2,12 +2,12 @@
 use Rattle.std.proofs.Common.{◌≡◌, ◌∙◌, sym, ap, subst, refl, ℕ, List, Option, Ok}
 use Rattle.std.specs.Io.KnownBytes.{Appends}
 use Rattle.uac_units.specs.Hearing.{Reading}
-use Rattle.uac_script.specs.Phrase.{SaidMark}
+use Rattle.uac_script.specs.Phrase.{PhraseMark}
 use Rattle.uac_edges.specs.declared.edges.Failed.{Failed}
 use Rattle.uac_transcript.specs.Transcript.{Said}
 use Rattle.uac_transcript.specs.Printing.{text_of}
 use Rattle.uac_streaming.specs.Telling as streams
-use Rattle.uac_streaming.specs.Telling.{Telling, telling_after, at_rest}
+use Rattle.uac_streaming.specs.Telling.{Telling, telling_after, without_event}
 use Rattle.uac_streaming.specs.StreamingWorld.{StreamingWorld, all_reported, all_settled, in_packets, out_packets}
 use Rattle.uac_streaming.proofs.Quiet.{IsQuiet, Quietly, quiet_ends, quiet_in, quiet_out, quiet_reports}
 use Rattle.uac_running.specs.RunningWorld.{RunningWorld, streaming_of, with_streaming}
@@ -19,7 +19,7 @@ use Rattle.uac_running.proofs.Steps.{streams_told}
 use Rattle.uac_running.proofs.StreamSteps.{all_settled-keep}
 
 -- the packets come first
-pub packets_first : (marks : List SaidMark) (r : RunningWorld) → followed_by (packets marks) all_domains r ≡ packets_and_ticks marks r
+pub packets_first : (marks : List PhraseMark) (r : RunningWorld) → followed_by (packets marks) all_domains r ≡ packets_and_ticks marks r
 unfolding packets_and_ticks
 packets_first marks r =
     let out = of_streams (out_packets r.detail marks) r in
@@ -29,14 +29,14 @@ packets_first marks r =
 abbrev told_with : RunningWorld → Telling StreamingWorld → Telling RunningWorld
 told_with r told = record { lines = told.lines; world = with_streaming r told.world }
 
-still_streams : (event : StreamingWorld → Telling StreamingWorld) (r : RunningWorld) → event (streaming_of r) ≡ streams.at_rest (streaming_of r) → of_streams event r ≡ at_rest r
+still_streams : (event : StreamingWorld → Telling StreamingWorld) (r : RunningWorld) → event (streaming_of r) ≡ streams.without_event (streaming_of r) → of_streams event r ≡ without_event r
 still_streams event r is = ap (told_with r) is
 
-still_told : (told : Telling RunningWorld) (p : RunningFields) (meters : List Reading) (r : RunningWorld) (old : Option (List ℕ)) → told ≡ at_rest r → RunningStands p meters r
+still_told : (told : Telling RunningWorld) (p : RunningFields) (meters : List Reading) (r : RunningWorld) (old : Option (List ℕ)) → told ≡ without_event r → RunningStands p meters r
     → RunningTells {E = Failed} told p meters old old (Ok tt)
 still_told told p meters r old is stands = subst (λ (t : Telling RunningWorld). RunningTells {E = Failed} t p meters old old (Ok tt)) (sym is) (Appends-nothing old, stands)
 
-pub quiet_packets_told : (marks : List SaidMark) (p : RunningFields) (meters : List Reading) (r : RunningWorld) (old : Option (List ℕ)) → IsQuiet (streaming_of r) → RunningStands p meters r
+pub quiet_packets_told : (marks : List PhraseMark) (p : RunningFields) (meters : List Reading) (r : RunningWorld) (old : Option (List ℕ)) → IsQuiet (streaming_of r) → RunningStands p meters r
     → RunningTells {E = Failed} (packets marks r) p meters old old (Ok tt)
 quiet_packets_told marks p meters r old none stands =
     still_told (packets marks r) p meters r old
@@ -45,7 +45,7 @@ quiet_packets_told marks p meters r old none stands =
     ∙ still_streams (in_packets r.detail marks) r (quiet_in r.detail marks (streaming_of r) none))
     stands
 
-pub quiet_ends_told : (marks : List SaidMark) (p : RunningFields) (meters : List Reading) (r : RunningWorld) (old : Option (List ℕ)) → IsQuiet (streaming_of r) → RunningStands p meters r
+pub quiet_ends_told : (marks : List PhraseMark) (p : RunningFields) (meters : List Reading) (r : RunningWorld) (old : Option (List ℕ)) → IsQuiet (streaming_of r) → RunningStands p meters r
     → RunningTells {E = Failed} (ends_and_reports marks r) p meters old old (Ok tt)
 unfolding ends_and_reports
 quiet_ends_told marks p meters r old none stands =

@@ -2,10 +2,10 @@
 use Rattle.std.proofs.Common.{◌≡◌, ◌∙◌, sym, ap, subst, refl, ℕ, ℤ, Bool, true, false, ◌&&◌, if◌then◌else◌, List, [], ◌∷◌}
 use Rattle.uac_alt.specs.declared.settings.InterfaceSetting.{InterfaceSetting}
 use Rattle.uac_store.specs.declared.keys.Key.{Key}
-use Rattle.uac_request.specs.Requests.{RequestState, after_request, request_state, reply_of, sets_interface}
+use Rattle.uac_request.specs.Requests.{RequestState, after_request, request_state, reply_of, sets_interface, is_done_answer}
 use Rattle.uac_request.specs.declared.setup.Setup.{Setup}
 use Rattle.uac_device.specs.DeviceKept as device
-use Rattle.uac_device.specs.DeviceWorld.{DeviceWorld, after_control, after_restart, stream_in_setting, tells_done}
+use Rattle.uac_device.specs.DeviceWorld.{DeviceWorld, after_control, after_restart, stream_in_setting}
 use Rattle.uac_mixer.specs.Agreement.{IsElementRead}
 use Rattle.uac_mixer.specs.MixerElements.{element_list}
 use Rattle.uac_mixer.specs.ViewLinks.{AreAsked, IsAsBefore, LinkFields}
@@ -23,7 +23,7 @@ unfolding after_control
 controlled_held p bytes w other =
     let held = request_state w.controls w.settings in
     let asked = with_held w (after_request w.function held p bytes) in
-    ap (λ (b : Bool). if b && tells_done (reply_of w.function held p bytes)
+    ap (λ (b : Bool). if b && is_done_answer (reply_of w.function held p bytes)
     then after_restart p.index (stream_in_setting w.function w.controls p.index p.value) asked else asked) other
 
 -- reading an element sets no interface

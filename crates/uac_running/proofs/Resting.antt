@@ -10,7 +10,7 @@ use Rattle.uac_topology.specs.Function.{FunctionFields}
 use Rattle.uac_graph.specs.Meaning.{entity}
 use Rattle.uac_graph.specs.Wiring.{silence}
 use Rattle.uac_units.specs.Hearing.{Reading}
-use Rattle.uac_lanes.specs.InterfaceStreams.{NoneRuns}
+use Rattle.uac_device_streams.specs.InterfaceStreams.{NoneRuns}
 use Rattle.uac_device.specs.DeviceKept as device
 use Rattle.uac_device.specs.DeviceWorld.{DeviceWorld, entity_in, input_of, is_input_jack, is_jack, is_streamed, set_jack, streamed_frame, after_tick}
 use Rattle.uac_device.specs.Stillness.{IsStill}
@@ -195,13 +195,13 @@ rests_after clock meters r p stands jacks quiet =
 -- ---- the ticks of a microframe
 
 -- a running device between two ticks: where a domain is silent none of its jacks sounds, and where its jacks rest they gave silence last; where
--- it is still no interface runs a stream, and where its lanes rest the terminals of the bus gave silence last
-pub record RestsSo (silent still jacks lanes : Bool) (clock : ℕ) (p : RunningFields) (meters : List Reading) (r : RunningWorld) : Type 0 where
+-- it is still no interface runs a stream, and where its streams rest the terminals of the bus gave silence last
+pub record RestsSo (silent still jacks device_streams : Bool) (clock : ℕ) (p : RunningFields) (meters : List Reading) (r : RunningWorld) : Type 0 where
   pub now : RunningStands p meters r
   pub quiet : silent ≡ true → one_sounds clock r.jacks ≡ false
   pub none : still ≡ true → NoneRuns r.device.outs r.device.ins
   pub rests : jacks ≡ true → AreAtRest clock r.jacks r.device
-  pub stills : lanes ≡ true → IsStill clock r.device
+  pub stills : device_streams ≡ true → IsStill clock r.device
 
 not_so : (b : Bool) → not b ≡ true → b ≡ false
 not_so true e = absurd (true≢false (sym e))
@@ -218,11 +218,11 @@ begun_to_tick sounding running clock p jacks meters r stands heard own none = re
   stills = λ e. absurd (true≢false (sym e));
 }
 
-pub after_one_tick : (silent still jacks lanes : Bool) (clock : ℕ) (p q : RunningFields) (shown showing : List Reading) (r : RunningWorld) → RestsSo silent still jacks lanes clock p shown r
+pub after_one_tick : (silent still jacks device_streams : Bool) (clock : ℕ) (p q : RunningFields) (shown showing : List Reading) (r : RunningWorld) → RestsSo silent still jacks device_streams clock p shown r
     → RunningStands q showing (tick clock r).world
     → (one_sounds clock r.jacks ≡ false → AreAtRest clock (tick clock r).world.jacks (tick clock r).world.device)
     → RestsSo silent still silent still clock q showing (tick clock r).world
-after_one_tick silent still jacks lanes clock p q shown showing r s stands rests = record {
+after_one_tick silent still jacks device_streams clock p q shown showing r s stands rests = record {
   now = stands;
   quiet = λ e. (rests (s.quiet e)).silent;
   none = λ e. (stills_after clock r (s.none e)).none;

@@ -7,17 +7,17 @@ use Rattle.uac_topology.specs.Function.{FunctionFields}
 use Rattle.uac_units.specs.Hearing.{at_most_u64}
 use Rattle.uac_request.specs.declared.setup.Setup.{Setup}
 use Rattle.uac_device.specs.DeviceWorld.{DeviceWorld, ZerosFitIn, after_advance, after_control, next_ticks, set_jack, stream_in_setting}
-use Rattle.uac_device.specs.DeviceKept.{IsInRange}
-use Rattle.uac_script.specs.Phrase.{SaidMark}
+use Rattle.uac_device.specs.DeviceKept.{IsDeviationInRange}
+use Rattle.uac_script.specs.Phrase.{PhraseMark}
 use Rattle.uac_mixer.specs.declared.link.When.{When}
 use Rattle.uac_mixer.specs.declared.link.When.TheVariants as when
 use Rattle.uac_streaming.specs.StreamingWorld.{after_following, in_packets, loses_out, out_packets}
 use Rattle.uac_streaming.specs.Room.{HaveRoom}
 use Rattle.uac_streaming.proofs.RoomOfDevices.{AreWithin, HaveSmallNumbers, advanced_within, all_fit, all_opened, any_clock, jack_within, ticked_within}
-use Rattle.uac_streaming.proofs.RoomKept.{controlled_room, deviated_room}
+use Rattle.uac_streaming.proofs.RoomKeptLemmas.{controlled_room, deviated_room}
 use Rattle.uac_streaming.proofs.RoomTurns.{IsRoomy, all_reported_keeps, all_settled_room, in_packets_within, out_packets_within}
 use Rattle.uac_running.specs.declared.jacks.Jack.{Jack}
-use Rattle.uac_running.specs.RunningWorld.{RunningWorld, streaming_of, with_detail, with_deviation, with_samples_on, with_streaming, with_tone, with_track}
+use Rattle.uac_running.specs.RunningWorld.{RunningWorld, streaming_of, with_detail, with_deviation, with_samples_on, with_streaming, with_jack_tone, with_track}
 use Rattle.uac_running.specs.Events.{after_all_jacks, domain_microframe, domain_microframes, ends_and_reports, after_jacks, microframe, microframes, next_frame, packets_and_ticks, tick, tick_times}
 use Rattle.uac_running.specs.RunningTransfers.{acts, holds_setting, after_transfer, with_break}
 
@@ -62,7 +62,7 @@ module _ (about : FunctionFields → Type 0) (loses : ℕ → Bool) where
 -- ---- a microframe
 
 -- before its ends
-pub ticks_within : (about : FunctionFields → Type 0) (marks : List SaidMark) (r : RunningWorld) → about r.device.function → HaveRoom r.device
+pub ticks_within : (about : FunctionFields → Type 0) (marks : List PhraseMark) (r : RunningWorld) → about r.device.function → HaveRoom r.device
     → AreWithin about (loses_out marks) [] 0 0 (packets_and_ticks marks r).world.device
 unfolding packets_and_ticks
 ticks_within about marks r holds room =
@@ -74,12 +74,12 @@ ticks_within about marks r holds room =
     domains_within about (loses_out marks) fetched.device.function.domains fetched after_packets.apart after_packets
 
 -- the zeros fit
-pub zeros_fit_in : (marks : List SaidMark) (r : RunningWorld) → HaveRoom r.device → (interface : ℕ)
+pub zeros_fit_in : (marks : List PhraseMark) (r : RunningWorld) → HaveRoom r.device → (interface : ℕ)
     → ZerosFitIn (packets_and_ticks marks r).world.device interface
 zeros_fit_in marks r room interface =
     all_fit (λ function. Unit {0}) (loses_out marks) [] 0 (packets_and_ticks marks r).world.device interface (ticks_within (λ function. Unit {0}) marks r tt room)
 
-ends_room : (about : FunctionFields → Type 0) (marks : List SaidMark) (r : RunningWorld) → HaveSmallNumbers r.device.function
+ends_room : (about : FunctionFields → Type 0) (marks : List PhraseMark) (r : RunningWorld) → HaveSmallNumbers r.device.function
     → AreWithin about (loses_out marks) [] 0 0 r.device → IsRoomy about (ends_and_reports marks r).world.device
 unfolding ends_and_reports
 ends_room about marks r small is =
@@ -87,7 +87,7 @@ ends_room about marks r small is =
 
 -- after it there is room, if the numbers of interfaces are bytes; what is so of the device's function stays so
 pub microframe_room : (about : FunctionFields → Type 0) → ((function : FunctionFields) → about function → HaveSmallNumbers function)
-    → (marks : List SaidMark) (r : RunningWorld) → IsRoomy about r.device → IsRoomy about (microframe marks r).world.device
+    → (marks : List PhraseMark) (r : RunningWorld) → IsRoomy about r.device → IsRoomy about (microframe marks r).world.device
 unfolding microframe
 microframe_room about small marks r is =
     let numbered : RunningWorld = record r { time = at_most_u64 (r.time + 1) } in
@@ -95,26 +95,26 @@ microframe_room about small marks r is =
     ends_room about marks (packets_and_ticks marks numbered).world (small _ within.function) within
 
 pub microframes_room : (about : FunctionFields → Type 0) → ((function : FunctionFields) → about function → HaveSmallNumbers function)
-    → (marks : List SaidMark) (count : ℕ) (r : RunningWorld) → IsRoomy about r.device
+    → (marks : List PhraseMark) (count : ℕ) (r : RunningWorld) → IsRoomy about r.device
     → IsRoomy about (microframes marks count r).world.device
 unfolding microframes
 microframes_room about small marks zero r is = is
 microframes_room about small marks (suc count) r is =
     microframes_room about small marks count (microframe marks r).world (microframe_room about small marks r is)
 
-pub one_microframe : (marks : List SaidMark) (r : RunningWorld) → HaveSmallNumbers r.device.function → HaveRoom r.device
+pub one_microframe : (marks : List PhraseMark) (r : RunningWorld) → HaveSmallNumbers r.device.function → HaveRoom r.device
     → HaveRoom (microframe marks r).world.device
 one_microframe marks r small room =
     (microframe_room HaveSmallNumbers (λ function is. is) marks r (record { room = room; function = small })).room
 
-pub many_microframes : (marks : List SaidMark) (count : ℕ) (r : RunningWorld) → HaveSmallNumbers r.device.function → HaveRoom r.device
+pub many_microframes : (marks : List PhraseMark) (count : ℕ) (r : RunningWorld) → HaveSmallNumbers r.device.function → HaveRoom r.device
     → HaveRoom (microframes marks count r).world.device
 many_microframes marks count r small room =
     (microframes_room HaveSmallNumbers (λ function is. is) marks count r (record { room = room; function = small })).room
 
 -- ---- what else changes the device
 
-pub deviation_room : (clock : ℕ) (ppm : ℤ) (r : RunningWorld) → IsInRange ppm → HaveRoom r.device
+pub deviation_room : (clock : ℕ) (ppm : ℤ) (r : RunningWorld) → IsDeviationInRange ppm → HaveRoom r.device
     → HaveRoom (with_deviation clock ppm r).device
 unfolding with_deviation
 deviation_room clock ppm r range room = deviated_room clock ppm r.device range room
@@ -135,8 +135,8 @@ transferred_room p bytes r room = by (holds_setting p bytes r) r.breaks
 
 -- what doesn't: a tone, the detail, a break, samples and a track
 module _ (r : RunningWorld) (room : HaveRoom r.device) where
-  pub toned_room : (terminal : ℕ) (tone : Tone) → HaveRoom (with_tone terminal tone r).device
-  unfolding with_tone
+  pub toned_room : (terminal : ℕ) (tone : Tone) → HaveRoom (with_jack_tone terminal tone r).device
+  unfolding with_jack_tone
   toned_room terminal tone = room
 
   pub detailed_room : (level : ℕ) → HaveRoom (with_detail level r).device

@@ -13,7 +13,7 @@ use Rattle.uac_mixer.specs.declared.element.Element.{Element}
 use Rattle.uac_mixer.specs.declared.link.Broken.{Broken}
 use Rattle.uac_alt.specs.declared.settings.InterfaceSetting.{InterfaceSetting}
 use Rattle.uac_store.specs.declared.keys.Key.{Key}
-use Rattle.uac_request.specs.Requests.{AnswerFields, request_state, rate_at, reply_of, sets_interface}
+use Rattle.uac_request.specs.Requests.{AnswerFields, request_state, rate_at, reply_of, sets_interface, is_done_answer}
 use Rattle.uac_request.specs.declared.setup.Setup.{Setup}
 use Rattle.uac_topology.specs.Function.{FunctionFields}
 use Rattle.uac_units.specs.Hearing.{Reading}
@@ -21,10 +21,10 @@ use Rattle.uac_device.specs.DeviceKept as device
 use Rattle.uac_alt.specs.AltStreams.{StreamFields, stream_fields, stream_of}
 use Rattle.uac_alt.specs.declared.values.Stream.{Stream}
 use Rattle.uac_entities.specs.declared.stream.StreamInterface.{StreamInterface}
-use Rattle.uac_host.specs.Calls.{IsStreamOf}
-use Rattle.uac_device.specs.DeviceWorld.{DeviceWorld, after_control, after_restart, stream_in_setting, tells_done}
+use Rattle.uac_host.specs.HostCalls.{IsStreamOf}
+use Rattle.uac_device.specs.DeviceWorld.{DeviceWorld, after_control, after_restart, stream_in_setting}
 use Rattle.uac_mixer.specs.Agreement.{IsMade}
-use Rattle.uac_mixer.specs.ViewLinks.{BreaksAs, IsAnswered, IsAsTold, IsUntouched, LinkFields}
+use Rattle.uac_mixer.specs.ViewLinks.{BreaksAs, IsAnswered, BreaksAsFaultSays, IsUntouched, LinkFields}
 use Rattle.uac_mixer.specs.ViewTransfers.{view_after}
 use Rattle.uac_mixer.specs.ViewWorld.{ViewWorld}
 use Rattle.uac_mixer.specs.declared.link.When.{When}
@@ -45,7 +45,7 @@ replies d r p sent stands =
 
 -- what comes back over a link that tells its fault
 came_by : (fault : Option When) (came : Option AnswerFields) (p : Setup) (sent : List ℕ) (old new : LinkFields) (reply : AnswerFields)
-    → IsAsTold fault p sent came old new → IsAnswered p sent came old new
+    → BreaksAsFaultSays fault p sent came old new → IsAnswered p sent came old new
     → reply_of old.device.function (request_state old.device.controls old.device.settings) p sent ≡ reply
     → came ≡ (if is_some fault then None else Some reply)
 came_by None None p sent old new reply told answered is = absurd (let some = told.breaks.0 refl in cc)
@@ -54,7 +54,7 @@ came_by (Some w) came p sent old new reply told answered is = told.breaks.1 refl
 
 -- what the device after it stands for
 acted : (fault : Option When) (came : Option AnswerFields) (p : Setup) (sent : List ℕ) (old new : LinkFields) (w : DeviceWorld)
-    → IsAsTold fault p sent came old new → IsAnswered p sent came old new → device.DeviceStands old.device w
+    → BreaksAsFaultSays fault p sent came old new → IsAnswered p sent came old new → device.DeviceStands old.device w
     → device.DeviceStands new.device (acts fault w (after_control p sent w))
 acted None None p sent old new w told answered stands = absurd (let some = told.breaks.0 refl in cc)
 acted None (Some t) p sent old new w told answered stands = answered.device.stands w stands
@@ -106,18 +106,18 @@ beside s d e w v stands acted same = record {
 
 -- the last answer over a link that tells its fault was that the device was done: it acted and was
 told_done : (fault : Option When) (came : Option AnswerFields) (p : Setup) (sent : List ℕ) (old new : LinkFields) (reply : AnswerFields)
-    → IsAsTold fault p sent came old new → IsAnswered p sent came old new → old.last ≡ None
+    → BreaksAsFaultSays fault p sent came old new → IsAnswered p sent came old new → old.last ≡ None
     → reply_of old.device.function (request_state old.device.controls old.device.settings) p sent ≡ reply
-    → option_map_or tells_done new.last false ≡ (not (breaks_before fault) && tells_done reply)
+    → option_map_or is_done_answer new.last false ≡ (not (breaks_before fault) && is_done_answer reply)
 told_done None None p sent old new reply told answered unanswered is = absurd (let some = told.breaks.0 refl in cc)
 told_done None (Some t) p sent old new reply told answered unanswered is =
-    ap (λ (o : Option AnswerFields). option_map_or tells_done o false) answered.last ∙ ap tells_done (answered.device.answer ∙ is)
+    ap (λ (o : Option AnswerFields). option_map_or is_done_answer o false) answered.last ∙ ap is_done_answer (answered.device.answer ∙ is)
 told_done (Some when.Before) came p sent old new reply told answered unanswered is =
     let kept : IsUntouched old new = told.at when.Before refl in
-    ap (λ (o : Option AnswerFields). option_map_or tells_done o false) (kept.last ∙ unanswered)
+    ap (λ (o : Option AnswerFields). option_map_or is_done_answer o false) (kept.last ∙ unanswered)
 told_done (Some when.After) came p sent old new reply told answered unanswered is =
     let stream_fields : BreaksAs when.After p sent old new = told.at when.After refl in
-    ap (λ (o : Option AnswerFields). option_map_or tells_done o false) stream_fields.1.last ∙ ap tells_done (stream_fields.1.device.answer ∙ is)
+    ap (λ (o : Option AnswerFields). option_map_or is_done_answer o false) stream_fields.1.last ∙ ap is_done_answer (stream_fields.1.device.answer ∙ is)
 
 -- a stream that is asked for is one of its interface
 asked_is : (f : FunctionFields) (controls : List (Key × ℤ)) (interface setting : ℕ) (x : StreamFields)
@@ -168,11 +168,11 @@ module _ (meters : List Reading) (r : RunningWorld) (p q : RunningFields) (setup
       ∙ ap (λ (o : Option When). if is_some o then None else Some (reply_in setup sent r)) stands.breaks
 
   -- the setting is held where the request sets one and the last answer is that the device was done
-  pub setting_held : old.last ≡ None → (sets_interface setup && option_map_or tells_done new.last false) ≡ holds_setting setup sent r
+  pub setting_held : old.last ≡ None → (sets_interface setup && option_map_or is_done_answer new.last false) ≡ holds_setting setup sent r
   setting_held unanswered =
       ap (λ (b : Bool). sets_interface setup && b)
       (told_done p.breaks came setup sent old new (reply_in setup sent r) (made.transfer.told p.breaks fault) made.transfer.answered unanswered (replies old.device r setup sent stands_lent)
-      ∙ ap (λ (o : Option When). not (breaks_before o) && tells_done (reply_in setup sent r)) stands.breaks)
+      ∙ ap (λ (o : Option When). not (breaks_before o) && is_done_answer (reply_in setup sent r)) stands.breaks)
 
   pub function_kept : (acts r.breaks r.device (after_control setup sent r.device)).function ≡ r.device.function
   function_kept = acts_kept (λ d. d.function) r.breaks r.device (after_control setup sent r.device) (controlled_function setup sent r.device)

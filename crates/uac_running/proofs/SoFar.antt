@@ -8,7 +8,7 @@ use Rattle.uac_transcript.specs.Transcript.{Said}
 use Rattle.uac_transcript.specs.Printing.{text_of}
 use Rattle.uac_transcript.proofs.PrintingLemmas.{Appends-lines, Prints-after, front_after, front_of_more}
 use Rattle.uac_running.specs.RunningWorld.{RunningWorld}
-use Rattle.uac_streaming.specs.Telling.{Telling, telling_after, at_rest}
+use Rattle.uac_streaming.specs.Telling.{Telling, telling_after, without_event}
 use Rattle.uac_running.specs.Events.{followed_by}
 use Rattle.uac_running.specs.RunningKept.{RunningFields, RunningTells}
 
@@ -68,9 +68,9 @@ stopped Keeps whole rest next step before shown old mid new splits s tells =
 
 -- nothing is left
 pub finished : (Keeps : RunningFields → List Reading → RunningWorld → Type 0) (whole : Telling RunningWorld) (rest : RunningWorld → Telling RunningWorld) (running : RunningFields) (meters : List Reading) (old new : Option (List ℕ))
-    → SoFar Keeps whole rest running meters old new → ((w : RunningWorld) → rest w ≡ at_rest w) → Appends old new (text_of whole.lines) × Keeps running meters whole.world
+    → SoFar Keeps whole rest running meters old new → ((w : RunningWorld) → rest w ≡ without_event w) → Appends old new (text_of whole.lines) × Keeps running meters whole.world
 finished Keeps whole rest running meters old new s ends =
-    let is : telling_after s.lines (at_rest s.now) ≡ whole = ap (telling_after s.lines) (sym (ends s.now)) ∙ s.left in (
+    let is : telling_after s.lines (without_event s.now) ≡ whole = ap (telling_after s.lines) (sym (ends s.now)) ∙ s.left in (
       subst (λ (lines : List Said). Appends old new (text_of lines)) (sym (append-nil s.lines) ∙ ap (λ (told : Telling RunningWorld). told.lines) is) s.written,
       subst (λ (w : RunningWorld). Keeps running meters w) (ap (λ (told : Telling RunningWorld). told.world) is) s.stands,
     )

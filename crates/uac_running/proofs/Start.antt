@@ -20,7 +20,7 @@ use Rattle.uac_units.specs.Hearing.{Reading}
 use Rattle.uac_graph.specs.Fitness.{IsSignalGraph}
 use Rattle.uac_graph.specs.Meaning.{entity}
 use Rattle.uac_device.specs.DeviceKept as device
-use Rattle.uac_device.specs.DeviceWorld.{at_rest, fresh, is_input_jack, is_jack}
+use Rattle.uac_device.specs.DeviceWorld.{resting_domain, fresh, is_input_jack, is_jack}
 use Rattle.uac_streaming.specs.StreamingKept as streaming
 use Rattle.uac_streaming.specs.StreamingWorld.{streaming_start}
 use Rattle.uac_mixer.specs.ViewWorld.{known_view}
@@ -31,10 +31,10 @@ use Rattle.uac_running.specs.declared.jacks.Jack.{Jack}
 use Rattle.uac_running.specs.RunningKept.{HasItsDomains, HasItsJacks, RunningFields, RunningStandsBetween, tick_count_of, none_counted}
 use Rattle.uac_running.specs.RunningWorld.{at_start, silent_jack}
 use Rattle.uac_running.proofs.RunningKeptLemmas.{clocks_of}
-use Rattle.uac_streaming.proofs.RoomKept.{fresh_room}
+use Rattle.uac_streaming.proofs.RoomKeptLemmas.{fresh_room}
 
 -- no domain has ticked
-pub counts-rest : (clocks : List ℕ) → map none_counted clocks ≡ map tick_count_of (map at_rest clocks)
+pub counts-rest : (clocks : List ℕ) → map none_counted clocks ≡ map tick_count_of (map resting_domain clocks)
 counts-rest [] = refl
 counts-rest (c ∷ cs) = ap (λ (ns : List TickCount). none_counted c ∷ ns) (counts-rest cs)
 

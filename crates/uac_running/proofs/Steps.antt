@@ -8,15 +8,15 @@ use Rattle.uac_units.specs.Hearing.{Reading, at_most_u64}
 use Rattle.uac_rate.specs.Steadiness as steadiness
 use Rattle.uac_device.specs.DeviceKept as device
 use Rattle.uac_device.specs.DeviceWorld.{DeviceWorld, after_advance, after_frames, after_deviation, heard_of, met_of, next_ticks, renders_of, set_jack, step_in, after_tick}
-use Rattle.uac_lanes.specs.declared.ticking.Ticked.{Ticked}
-use Rattle.uac_script.specs.Phrase.{SaidMark}
+use Rattle.uac_device_streams.specs.declared.ticking.Ticked.{Ticked}
+use Rattle.uac_script.specs.Phrase.{PhraseMark}
 use Rattle.uac_transcript.specs.Printing.{Prints, text_of}
 use Rattle.uac_transcript.proofs.PrintingLemmas.{front_after, front_of_more}
 use Rattle.uac_edges.specs.Writing.{AppendsFront}
 use Rattle.std.specs.Io.KnownBytes.{Appends}
 use Rattle.uac_streaming.specs.Room.{HaveRoom}
 use Rattle.uac_streaming.specs.StreamingKept as streaming
-use Rattle.uac_streaming.specs.Telling.{Telling, telling_after, at_rest}
+use Rattle.uac_streaming.specs.Telling.{Telling, telling_after, without_event}
 use Rattle.uac_host.specs.HostWorld.{HostWorld}
 use Rattle.uac_streaming.specs.StreamingKept.{StreamingFields}
 use Rattle.uac_streaming.specs.StreamingWorld.{StreamingWorld, found_counts, found_lines, met_in, numbers, numbers_in, numbers_out}
@@ -24,7 +24,7 @@ use Rattle.uac_running.specs.declared.counts.TickCount.{TickCount}
 use Rattle.uac_running.specs.declared.jacks.Jack.{Jack}
 use Rattle.uac_topology.specs.Function.{FunctionFields}
 use Rattle.uac_mixer.specs.ViewWorld.{IsViewOf, ViewWorld}
-use Rattle.uac_running.specs.RunningWorld.{RunningWorld, streaming_of, jack_with_tone, with_detail, with_deviation, with_streaming, with_tone}
+use Rattle.uac_running.specs.RunningWorld.{RunningWorld, streaming_of, jack_with_tone, with_detail, with_deviation, with_streaming, with_jack_tone}
 use Rattle.uac_running.specs.RunningLines.{played_lines}
 use Rattle.uac_running.specs.Events.{after_all_jacks, domain_microframe, domain_microframes, ends_and_reports, followed_by, after_jacks, jacks_after_frame, microframe, microframes, next_frame, number_said, of_streams, packets_and_ticks, tick, tick_times}
 use Rattle.uac_running.specs.RunningTransfers.{break_at, with_break}
@@ -39,16 +39,16 @@ pub ticks_split : (count i clock : ℕ) (w : RunningWorld) → i < count → tic
 unfolding tick_times
 ticks_split count i clock w below = let left : count - i ≡ suc (count - (i + 1)) = omega arith in ap (λ n. tick_times n clock w) left
 
-pub ticks_end : (count i clock : ℕ) (w : RunningWorld) → count ≤ i → tick_times (count - i) clock w ≡ at_rest w
+pub ticks_end : (count i clock : ℕ) (w : RunningWorld) → count ≤ i → tick_times (count - i) clock w ≡ without_event w
 unfolding tick_times
 ticks_end count i clock w past = let left : count - i ≡ 0 = omega arith in ap (λ n. tick_times n clock w) left
 
-pub microframes_split : (marks : List SaidMark) (count i : ℕ) (w : RunningWorld) → i < count
+pub microframes_split : (marks : List PhraseMark) (count i : ℕ) (w : RunningWorld) → i < count
     → microframes marks (count - i) w ≡ telling_after (microframe marks w).lines (microframes marks (count - (i + 1)) (microframe marks w).world)
 unfolding microframes
 microframes_split marks count i w below = let left : count - i ≡ suc (count - (i + 1)) = omega arith in ap (λ n. microframes marks n w) left
 
-pub microframes_end : (marks : List SaidMark) (count i : ℕ) (w : RunningWorld) → count ≤ i → microframes marks (count - i) w ≡ at_rest w
+pub microframes_end : (marks : List PhraseMark) (count i : ℕ) (w : RunningWorld) → count ≤ i → microframes marks (count - i) w ≡ without_event w
 unfolding microframes
 microframes_end marks count i w past = let left : count - i ≡ 0 = omega arith in ap (λ n. microframes marks n w) left
 
@@ -57,7 +57,7 @@ pub domains_split : (clocks : List ℕ) (i : ℕ) (w : RunningWorld) → i < len
 unfolding domain_microframes
 domains_split clocks i w below = ap (λ (cs : List ℕ). domain_microframes cs w) (drop-cons clocks i 0 below) ∙ rw add-one refl
 
-pub domains_end : (clocks : List ℕ) (i : ℕ) (w : RunningWorld) → length clocks ≤ i → domain_microframes (drop i clocks) w ≡ at_rest w
+pub domains_end : (clocks : List ℕ) (i : ℕ) (w : RunningWorld) → length clocks ≤ i → domain_microframes (drop i clocks) w ≡ without_event w
 unfolding domain_microframes
 domains_end clocks i w past = ap (λ (cs : List ℕ). domain_microframes cs w) (drop_all i clocks past)
 
@@ -141,10 +141,10 @@ module _ (meters : List Reading) (r : RunningWorld) (p q : RunningFields) (stand
         renders = stands.renders;
       })
 
-  pub toned_on : (terminal : ℕ) (tone : Tone) (jacks : List Jack) → jacks ≡ map (jack_with_tone terminal tone) p.jacks → q ≡ record p { jacks = jacks } → RunningStands q meters (with_tone terminal tone r)
-  unfolding with_tone
+  pub toned_on : (terminal : ℕ) (tone : Tone) (jacks : List Jack) → jacks ≡ map (jack_with_tone terminal tone) p.jacks → q ≡ record p { jacks = jacks } → RunningStands q meters (with_jack_tone terminal tone r)
+  unfolding with_jack_tone
   toned_on terminal tone jacks changed is =
-      let P : RunningFields → Type 0 = λ x. RunningStands x meters (with_tone terminal tone r) in
+      let P : RunningFields → Type 0 = λ x. RunningStands x meters (with_jack_tone terminal tone r) in
       subst P (sym is)
       (record {
         streaming = stands.streaming;
@@ -326,7 +326,7 @@ number_line r p meters stands = ap (λ n. number_said n p.time) stands.detail �
 abbrev pub numbered : RunningWorld → RunningWorld
 numbered r = record r { time = at_most_u64 (r.time + 1) }
 
-module _ (marks : List SaidMark) (r : RunningWorld) where
+module _ (marks : List PhraseMark) (r : RunningWorld) where
   abbrev all_of_it : Telling RunningWorld
   all_of_it = followed_by (packets_and_ticks marks) (ends_and_reports marks) (numbered r)
 

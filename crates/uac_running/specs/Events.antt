@@ -5,10 +5,10 @@ use Rattle.std.specs.List.{fold}
 use Rattle.uac_pcm.specs.Tones.{tone_frame}
 use Rattle.uac_device.specs.DeviceWorld.{DeviceWorld, after_advance, next_ticks, renders_of, set_jack, after_tick, heard_of, after_frames}
 use Rattle.uac_units.specs.Hearing.{at_most_u64}
-use Rattle.uac_script.specs.Phrase.{SaidMark}
+use Rattle.uac_script.specs.Phrase.{PhraseMark}
 use Rattle.uac_transcript.specs.Transcript.{Said, says_time}
 use Rattle.uac_running.specs.declared.jacks.Jack.{Jack}
-use Rattle.uac_streaming.specs.Telling.{Telling, telling_after, at_rest}
+use Rattle.uac_streaming.specs.Telling.{Telling, telling_after, without_event}
 use Rattle.uac_streaming.specs.StreamingWorld.{StreamingWorld, all_reported, all_settled, found_counts, found_lines, in_packets}
 use Rattle.uac_streaming.specs.StreamingWorld.{out_packets}
 use Rattle.uac_running.specs.RunningWorld.{RunningWorld, streaming_of, with_streaming}
@@ -57,7 +57,7 @@ tick domain r =
 
 -- so many ticks of a domain
 unfoldable pub tick_times : ℕ → ℕ → RunningWorld → Telling RunningWorld
-tick_times zero domain r = at_rest r
+tick_times zero domain r = without_event r
 tick_times (suc n) domain r = telling_after (tick domain r).lines (tick_times n domain (tick domain r).world)
 
 -- a domain's part of a microframe: its clock goes on, and it ticks as often as that gives
@@ -66,7 +66,7 @@ domain_microframe domain r = tick_times (next_ticks domain r.device) domain (rec
 
 -- a microframe of several domains, one after the other
 unfoldable pub domain_microframes : List ℕ → RunningWorld → Telling RunningWorld
-domain_microframes [] r = at_rest r
+domain_microframes [] r = without_event r
 domain_microframes (domain ∷ domains) r = telling_after (domain_microframe domain r).lines
     (domain_microframes domains (domain_microframe domain r).world)
 
@@ -90,21 +90,21 @@ all_domains r = domain_microframes r.device.function.domains r
 
 -- a microframe after its number, in which these packets and feedback reports are lost: the packets to the device, and those from it; the
 -- ticks of each domain, in order; the end of the microframe for each stream; and the feedback reports
-unfoldable pub packets_and_ticks : List SaidMark → RunningWorld → Telling RunningWorld
+unfoldable pub packets_and_ticks : List PhraseMark → RunningWorld → Telling RunningWorld
 packets_and_ticks marks r =
     followed_by (of_streams (out_packets r.detail marks)) (followed_by (of_streams (in_packets r.detail marks)) all_domains) r
 
-unfoldable pub ends_and_reports : List SaidMark → RunningWorld → Telling RunningWorld
+unfoldable pub ends_and_reports : List PhraseMark → RunningWorld → Telling RunningWorld
 ends_and_reports marks r = followed_by (of_streams (all_settled r.detail)) (of_streams (all_reported r.detail marks)) r
 
 -- one microframe: from detail 2 on its number is said first
-unfoldable pub microframe : List SaidMark → RunningWorld → Telling RunningWorld
+unfoldable pub microframe : List PhraseMark → RunningWorld → Telling RunningWorld
 microframe marks r =
     let time = at_most_u64 (r.time + 1) in
     telling_after (number_said r.detail time)
     (followed_by (packets_and_ticks marks) (ends_and_reports marks) (record r { time = time }))
 
 -- so many microframes, with these losses in each
-unfoldable pub microframes : List SaidMark → ℕ → RunningWorld → Telling RunningWorld
-microframes marks zero r = at_rest r
+unfoldable pub microframes : List PhraseMark → ℕ → RunningWorld → Telling RunningWorld
+microframes marks zero r = without_event r
 microframes marks (suc n) r = telling_after (microframe marks r).lines (microframes marks n (microframe marks r).world)

@@ -7,13 +7,13 @@ use Rattle.uac_topology.specs.Function.{FunctionFields}
 use Rattle.uac_graph.specs.Meaning.{entity}
 use Rattle.uac_script.specs.declared.line.MarkKind.{MarkKind}
 use Rattle.uac_script.specs.declared.line.MarkKind.TheVariants.{Out, In, Feedback}
-use Rattle.uac_script.specs.Phrase.{SaidMark}
+use Rattle.uac_script.specs.Phrase.{PhraseMark}
 use Rattle.uac_running.specs.RunningWorld.{RunningWorld}
 
 -- the number, which a range keeps from being negative
-abbrev pub size_of : ℤ → ℕ
-size_of (pos n) = n
-size_of (negsuc n) = 0
+abbrev pub natural_of_int : ℤ → ℕ
+natural_of_int (pos n) = n
+natural_of_int (negsuc n) = 0
 
 -- there is an input jack with this id
 abbrev pub has_jack : RunningWorld → ℕ → Bool
@@ -44,8 +44,8 @@ has_marked streams In number = has_in streams number
 has_marked streams Feedback number = has_out streams number
 
 -- a mark names one of them that has such packets or reports
-abbrev pub names_stream : List StreamInterface → SaidMark → Bool
-names_stream streams mark = has_marked streams mark.kind (size_of mark.interface)
+abbrev pub names_stream : List StreamInterface → PhraseMark → Bool
+names_stream streams mark = has_marked streams mark.kind (natural_of_int mark.interface)
 
 -- the samples are whole frames of the channels of the terminal to which the interface links
 unfoldable pub are_frames : FunctionFields → ℕ → ℕ → Bool

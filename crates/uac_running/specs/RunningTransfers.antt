@@ -7,9 +7,9 @@ use Rattle.std.specs.Str.{bytes_eq}
 use Rattle.uac_configuration.specs.Configuration.{configuration_of}
 use Rattle.uac_store.specs.Keyed.{value_of}
 use Rattle.uac_request.specs.Requests.{AnswerFields, request_state, reply_of, value_bytes, sets_interface}
-use Rattle.uac_request.specs.Requests.{with_bytes, with_descriptor, is_done, is_stalled}
+use Rattle.uac_request.specs.Requests.{with_bytes, with_descriptor, is_done, is_stalled, is_done_answer}
 use Rattle.uac_request.specs.declared.setup.Setup.{Setup}
-use Rattle.uac_device.specs.DeviceWorld.{DeviceWorld, after_control, stream_in_setting, tells_done}
+use Rattle.uac_device.specs.DeviceWorld.{DeviceWorld, after_control, stream_in_setting}
 use Rattle.uac_streaming.specs.StreamingWorld.{StreamingWorld, after_following}
 use Rattle.uac_mixer.specs.MixerElements.{name_of, width_of}
 use Rattle.uac_mixer.specs.ViewTransfers.{get_of, set_of, view_after}
@@ -21,7 +21,7 @@ use Rattle.uac_transcript.specs.Transcript.{TransferOutcome, gave, was_done, sta
 use Rattle.uac_transcript.specs.Transcript.{was_stalled}
 use Rattle.uac_transcript.specs.Transcript.{was_broken, says_answer, says_view}
 use Rattle.uac_running.specs.RunningWorld.{RunningWorld, streaming_of, with_streaming}
-use Rattle.uac_streaming.specs.Telling.{Telling, at_rest}
+use Rattle.uac_streaming.specs.Telling.{Telling, without_event}
 
 -- ---- a transfer
 
@@ -47,7 +47,7 @@ acts (Some when.After) resting acted = acted
 
 -- a transfer after which the device holds another setting of an interface: it acted, and was done
 abbrev pub holds_setting : Setup → List ℕ → RunningWorld → Bool
-holds_setting p sent r = sets_interface p && (not (breaks_before r.breaks) && tells_done (reply_in p sent r))
+holds_setting p sent r = sets_interface p && (not (breaks_before r.breaks) && is_done_answer (reply_in p sent r))
 
 -- the host's streams follow the device: that of an interface whose setting it holds starts anew or stops, also where the transfer broke
 abbrev pub streams_follow : Setup → List ℕ → RunningWorld → StreamingWorld → StreamingWorld
@@ -132,7 +132,7 @@ shown_sight x None = is_unknown (name_of x)
 shown_sight x (Some value) = has_value (name_of x) value
 
 unfoldable pub show_element : Element → RunningWorld → Telling RunningWorld
-show_element x r = record (at_rest r) { lines = says_view (shown_sight x x.value) ∷ [] }
+show_element x r = record (without_event r) { lines = says_view (shown_sight x x.value) ∷ [] }
 
 -- what reading an element answers: the device's value, or that the transfer broke
 abbrev pub IsRead : Element → RunningWorld → Result ℤ Broken → Type 0

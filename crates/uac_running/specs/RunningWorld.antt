@@ -7,8 +7,8 @@ use Rattle.uac_topology.specs.Function.{FunctionFields}
 use Rattle.uac_units.specs.Hearing.{Reading}
 use Rattle.uac_device.specs.DeviceWorld.{DeviceWorld, fresh, after_deviation, is_input_jack}
 use Rattle.uac_host.specs.HostWorld.{HostWorld, fresh_host}
-use Rattle.uac_host.specs.Calls as calls
-use Rattle.uac_host.specs.Calls.{with_samples}
+use Rattle.uac_host.specs.HostCalls as calls
+use Rattle.uac_host.specs.HostCalls.{with_samples}
 use Rattle.uac_rate.specs.Steadiness as steadiness
 use Rattle.uac_rate.specs.Steadiness.{SteadyHistory, nothing_given}
 use Rattle.uac_streaming.specs.StreamingWorld.{StreamingWorld, nothing_met}
@@ -68,8 +68,8 @@ abbrev pub jack_with_tone : ℕ → Tone → Jack → Jack
 jack_with_tone terminal tone j = if j.terminal == terminal then record j { tone = tone; place = 0 } else j
 
 -- an input jack has this tone from now on, from its first frame
-unfoldable pub with_tone : ℕ → Tone → RunningWorld → RunningWorld
-with_tone terminal tone r = record r { jacks = map (jack_with_tone terminal tone) r.jacks }
+unfoldable pub with_jack_tone : ℕ → Tone → RunningWorld → RunningWorld
+with_jack_tone terminal tone r = record r { jacks = map (jack_with_tone terminal tone) r.jacks }
 
 -- a domain's clock is off by so many ppm from now on
 unfoldable pub with_deviation : ℕ → ℤ → RunningWorld → RunningWorld
@@ -100,4 +100,4 @@ with_samples_on interface samples r = record r { host = with_samples interface s
 
 -- a track goes on by another tone
 unfoldable pub with_track : ℕ → Tone → RunningWorld → RunningWorld
-with_track interface tone r = record r { host = calls.with_tone interface tone r.host }
+with_track interface tone r = record r { host = calls.with_track_tone interface tone r.host }

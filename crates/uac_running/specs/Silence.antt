@@ -5,7 +5,7 @@ use Rattle.uac_pcm.specs.declared.tones.Tone.{Tone}
 use Rattle.uac_pcm.specs.declared.tones.Tone.TheVariants as tones
 use Rattle.uac_graph.specs.Wiring.{silence}
 use Rattle.uac_device.specs.DeviceWorld.{DeviceWorld}
-use Rattle.uac_script.specs.Phrase.{SaidMark}
+use Rattle.uac_script.specs.Phrase.{PhraseMark}
 use Rattle.uac_streaming.specs.StreamingWorld.{in_packets, out_packets}
 use Rattle.uac_running.specs.declared.jacks.Jack.{Jack}
 use Rattle.uac_running.specs.RunningWorld.{RunningWorld}
@@ -32,5 +32,5 @@ pub record AreAtRest (domain : ℕ) (jacks : List Jack) (w : DeviceWorld) : Type
   pub gave : All (GaveSilence domain w) jacks
 
 -- the packets of a microframe: those to the device, and those from it
-abbrev pub packets : List SaidMark → RunningWorld → Telling RunningWorld
+abbrev pub packets : List PhraseMark → RunningWorld → Telling RunningWorld
 packets marks r = followed_by (of_streams (out_packets r.detail marks)) (of_streams (in_packets r.detail marks)) r

@@ -58,11 +58,11 @@ pub(crate) fn set_tone(jacks: &mut [Jack], terminal: u8, tone: Tone)
     ensures { jacks.new ≡ map (spec.jack_with_tone terminal tone) jacks.old }
 {
     for jack in jacks.iter_mut() {
-        *jack = with_tone(*jack, terminal, tone);
+        *jack = jack_with_tone(*jack, terminal, tone);
     }
 }
 
-fn with_tone(jack: Jack, terminal: u8, tone: Tone) -> Jack
+fn jack_with_tone(jack: Jack, terminal: u8, tone: Tone) -> Jack
     ensures { result ≡ spec.jack_with_tone terminal tone jack }
 {
     if jack.terminal == terminal {

@@ -20,7 +20,7 @@ mod transfers;
 
 pub use counts::TickCount;
 pub use jacks::Jack;
-pub use naming::{are_frames, are_placed, has_out};
+pub use naming::{all_name_streams, are_frames, has_out};
 pub use running::Running;
 pub use transfers::fresh_view;
 pub use uac_transcript::StreamCounts;

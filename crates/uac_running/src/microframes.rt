@@ -3,9 +3,9 @@ ghost use Rattle.std.specs.Prelude.{◌≡◌, ◌++◌, ℕ, List, ◌+◌, ◌
 ghost use Rattle.std.specs.List.{All};
 ghost use Rattle.uac_units.specs.Fitting.{IsFitted};
 ghost use Rattle.uac_units.specs.Hearing.{Reading, at_most_u64};
-ghost use Rattle.uac_units.specs.Panel.{readings};
+ghost use Rattle.uac_units.specs.MeterReadings.{readings};
 ghost use Rattle.uac_edges.specs.Faults.{HasCause};
-ghost use Rattle.uac_script.specs.Line.{said_mark};
+ghost use Rattle.uac_script.specs.Line.{phrase_mark};
 ghost use Rattle.uac_device.specs.DeviceKept as device;
 ghost use Rattle.uac_device.specs.DeviceWorld.{DeviceWorld, ZerosFitIn, after_advance, met_of, next_ticks};
 ghost use Rattle.uac_device.specs.Stillness.{IsStill};
@@ -34,12 +34,12 @@ use uac_topology::Function;
 use uac_transcript::write_time;
 use uac_units::{Meter, Meters, Rack, Steps, Unit};
 
-/// What of a domain rests at a tick: its jacks, where each is silent and gave silence last, and the lanes, where no stream runs and the
+/// What of a domain rests at a tick: its jacks, where each is silent and gave silence last, and its streams, where none runs and the
 /// terminals of the bus gave silence last.
 #[derive(Clone, Copy)]
 struct Rest {
     jacks: bool,
-    lanes: bool,
+    device_streams: bool,
 }
 
 impl Running {
@@ -55,7 +55,7 @@ impl Running {
         requires rack { IsFitted (λ v x. (⟦<dyn Unit as Unit>⟧ v).kind_of x) rack.now }
         ensures tells { (r : RunningWorld)
             → RunningStandsBetween self.old (readings (λ v x. (⟦<dyn Meter as Meter>⟧ v).reading_of x) meters.old) r
-            → RunningTellsBetween (microframes (map said_mark marks.now) count r) self.new
+            → RunningTellsBetween (microframes (map phrase_mark marks.now) count r) self.new
             (readings (λ v x. (⟦<dyn Meter as Meter>⟧ v).reading_of x) meters.new)
             (K.written sink.old) (K.written sink.new) result }
         ensures cause { HasCause (K.faults sink.old) (K.faults sink.new) result }
@@ -80,7 +80,7 @@ impl Running {
         requires small { All (λ s. s.number < 256) self.old.device.function.streams }
         ensures tells { (r : RunningWorld)
             → RunningStandsBetween self.old (readings (λ v x. (⟦<dyn Meter as Meter>⟧ v).reading_of x) meters.old) r
-            → RunningTellsBetween (microframe (map said_mark marks.now) r) self.new
+            → RunningTellsBetween (microframe (map phrase_mark marks.now) r) self.new
             (readings (λ v x. (⟦<dyn Meter as Meter>⟧ v).reading_of x) meters.new)
             (K.written sink.old) (K.written sink.new) result }
         ensures cause { HasCause (K.faults sink.old) (K.faults sink.new) result }
@@ -102,7 +102,7 @@ impl Running {
     ) -> Result<(), Failed>
         requires rack { IsFitted (λ v x. (⟦<dyn Unit as Unit>⟧ v).kind_of x) rack.now }
         ensures tells { (r : RunningWorld) → RunningStands self.old (readings (λ v x. (⟦<dyn Meter as Meter>⟧ v).reading_of x) meters.old) r
-            → RunningTells (packets_and_ticks (map said_mark marks.now) r) self.new
+            → RunningTells (packets_and_ticks (map phrase_mark marks.now) r) self.new
             (readings (λ v x. (⟦<dyn Meter as Meter>⟧ v).reading_of x) meters.new)
             (K.written sink.old) (K.written sink.new) result }
         ensures cause { HasCause (K.faults sink.old) (K.faults sink.new) result }
@@ -115,7 +115,7 @@ impl Running {
     /// The packets of a microframe: those to the device, and those from it. Where no stream runs there are none.
     fn packets<K: Sink>(&mut self, marks: &[Mark], sink: &mut K) -> Result<(), Failed>
         ensures tells { (meters : List Reading) (r : RunningWorld) → RunningStands self.old meters r
-            → RunningTells (packets (map said_mark marks.now) r) self.new meters (K.written sink.old) (K.written sink.new) result }
+            → RunningTells (packets (map phrase_mark marks.now) r) self.new meters (K.written sink.old) (K.written sink.new) result }
         ensures cause { HasCause (K.faults sink.old) (K.faults sink.new) result }
         ensures function { self.new.device.function ≡ self.old.device.function }
     {
@@ -131,7 +131,8 @@ impl Running {
     fn ends_and_reports<K: Sink>(&mut self, marks: &[Mark], sink: &mut K) -> Result<(), Failed>
         ensures tells { (meters : List Reading) (r : RunningWorld) → RunningStands self.old meters r
             → ((interface : ℕ) → ZerosFitIn r.device interface)
-            → RunningTells (ends_and_reports (map said_mark marks.now) r) self.new meters (K.written sink.old) (K.written sink.new) result }
+            → RunningTells (ends_and_reports (map phrase_mark marks.now) r) self.new meters (K.written sink.old) (K.written sink.new)
+            result }
         ensures cause { HasCause (K.faults sink.old) (K.faults sink.new) result }
         ensures function { self.new.device.function ≡ self.old.device.function }
     {
@@ -145,7 +146,7 @@ impl Running {
     /// The packets to the device.
     fn out_packets<K: Sink>(&mut self, marks: &[Mark], sink: &mut K) -> Result<(), Failed>
         ensures tells { (meters : List Reading) (r : RunningWorld) → RunningStands self.old meters r
-            → RunningTells (of_streams (out_packets r.detail (map said_mark marks.now)) r) self.new meters
+            → RunningTells (of_streams (out_packets r.detail (map phrase_mark marks.now)) r) self.new meters
             (K.written sink.old) (K.written sink.new) result }
         ensures cause { HasCause (K.faults sink.old) (K.faults sink.new) result }
         ensures function { self.new.device.function ≡ self.old.device.function }
@@ -157,7 +158,7 @@ impl Running {
     /// The packets from the device.
     fn in_packets<K: Sink>(&mut self, marks: &[Mark], sink: &mut K) -> Result<(), Failed>
         ensures tells { (meters : List Reading) (r : RunningWorld) → RunningStands self.old meters r
-            → RunningTells (of_streams (in_packets r.detail (map said_mark marks.now)) r) self.new meters
+            → RunningTells (of_streams (in_packets r.detail (map phrase_mark marks.now)) r) self.new meters
             (K.written sink.old) (K.written sink.new) result }
         ensures cause { HasCause (K.faults sink.old) (K.faults sink.new) result }
         ensures function { self.new.device.function ≡ self.old.device.function }
@@ -180,7 +181,7 @@ impl Running {
     /// The feedback reports.
     fn reports<K: Sink>(&mut self, marks: &[Mark], sink: &mut K) -> Result<(), Failed>
         ensures tells { (meters : List Reading) (r : RunningWorld) → RunningStands self.old meters r
-            → RunningTells (of_streams (all_reported r.detail (map said_mark marks.now)) r) self.new meters
+            → RunningTells (of_streams (all_reported r.detail (map phrase_mark marks.now)) r) self.new meters
             (K.written sink.old) (K.written sink.new) result }
         ensures cause { HasCause (K.faults sink.old) (K.faults sink.new) result }
         ensures function { self.new.device.function ≡ self.old.device.function }
@@ -274,7 +275,7 @@ impl Running {
         ticks
     }
 
-    /// Does so many ticks of a domain. Where its jacks are silent they rest from the second tick on, and so do the lanes where no stream
+    /// Does so many ticks of a domain. Where its jacks are silent they rest from the second tick on, and so do its streams where none
     /// runs.
     fn ticks<K: Sink>(
         &mut self,
@@ -295,19 +296,19 @@ impl Running {
         let still = !self.device.runs();
         let mut rest = Rest {
             jacks: false,
-            lanes: false,
+            device_streams: false,
         };
         for _ticked in 0..count {
             self.tick(rest, domain, rack, meters, sink)?;
             rest = Rest {
                 jacks: silent,
-                lanes: still,
+                device_streams: still,
             };
         }
         Ok(())
     }
 
-    /// One tick of a domain, whose jacks and lanes may rest.
+    /// One tick of a domain, whose jacks and streams may rest.
     fn tick<K: Sink>(
         &mut self,
         rest: Rest,
@@ -318,7 +319,7 @@ impl Running {
     ) -> Result<(), Failed>
         requires rack { IsFitted (λ v x. (⟦<dyn Unit as Unit>⟧ v).kind_of x) rack.now }
         ensures tells { (r : RunningWorld) → RunningStands self.old (readings (λ v x. (⟦<dyn Meter as Meter>⟧ v).reading_of x) meters.old) r
-            → (rest.jacks ≡ true → AreAtRest domain r.jacks r.device) → (rest.lanes ≡ true → IsStill domain r.device)
+            → (rest.jacks ≡ true → AreAtRest domain r.jacks r.device) → (rest.device_streams ≡ true → IsStill domain r.device)
             → RunningTells (tick domain r) self.new (readings (λ v x. (⟦<dyn Meter as Meter>⟧ v).reading_of x) meters.new)
             (K.written sink.old) (K.written sink.new) result }
         ensures rests { (meters : List Reading) (r : RunningWorld) → RunningStands self.old meters r
@@ -332,15 +333,15 @@ impl Running {
     }
 
     /// The jacks of a domain give their next frames, unless they rest, the device ticks, and the meters hear its output jacks. The renders
-    /// are counted, and what rings were found empty and full. Answers which: none where the lanes rest.
+    /// are counted, and what rings were found empty and full. Answers which: none where the domain's streams rest.
     fn sound(&mut self, rest: Rest, domain: u8, rack: &Rack, meters: &mut Meters) -> Ticked
         requires rack { IsFitted (λ v x. (⟦<dyn Unit as Unit>⟧ v).kind_of x) rack.now }
         ensures stands { (r : RunningWorld)
             → RunningStands self.old (readings (λ v x. (⟦<dyn Meter as Meter>⟧ v).reading_of x) meters.old) r
-            → (rest.jacks ≡ true → AreAtRest domain r.jacks r.device) → (rest.lanes ≡ true → IsStill domain r.device)
+            → (rest.jacks ≡ true → AreAtRest domain r.jacks r.device) → (rest.device_streams ≡ true → IsStill domain r.device)
             → RunningStands self.new (readings (λ v x. (⟦<dyn Meter as Meter>⟧ v).reading_of x) meters.new) (tick domain r).world }
         ensures found { (r : RunningWorld) → RunningStands self.old (readings (λ v x. (⟦<dyn Meter as Meter>⟧ v).reading_of x) meters.old) r
-            → (rest.jacks ≡ true → AreAtRest domain r.jacks r.device) → (rest.lanes ≡ true → IsStill domain r.device)
+            → (rest.jacks ≡ true → AreAtRest domain r.jacks r.device) → (rest.device_streams ≡ true → IsStill domain r.device)
             → result ≡ met_of domain (after_all_jacks domain r) }
         ensures rests { (meters : List Reading) (r : RunningWorld) → RunningStands self.old meters r
             → silence.one_sounds domain r.jacks ≡ false
@@ -353,7 +354,7 @@ impl Running {
         let mut steps = Steps::new();
         let found = self
             .device
-            .tick_where(rest.lanes, domain, rack, meters, &mut steps);
+            .tick_where(rest.device_streams, domain, rack, meters, &mut steps);
         self.renders = self.renders.saturating_add(steps.count());
         self.streaming.find(self.device.function(), found);
         found

@@ -2,7 +2,7 @@
 ghost use Rattle.std.specs.Prelude.{◌≡◌, ◌==◌, ◌%◌, List};
 ghost use Rattle.std.specs.List.{list_all, list_any, find};
 ghost use Rattle.std.specs.Option.{option_map};
-ghost use Rattle.uac_script.specs.Line.{said_mark};
+ghost use Rattle.uac_script.specs.Line.{phrase_mark};
 ghost use Rattle.uac_units.specs.Hearing.{Reading};
 ghost use Rattle.uac_running.specs.RunningKept.{RunningStandsBetween};
 ghost use Rattle.uac_running.specs.RunningNames as spec;
@@ -65,8 +65,8 @@ fn has_in(streams: &[StreamInterface], number: u8) -> bool
 }
 
 /// Whether a mark names an interface that has such packets or reports.
-fn is_placed(streams: &[StreamInterface], mark: &Mark) -> bool
-    ensures { result ≡ spec.names_stream streams.now (said_mark mark.now) }
+fn names_stream(streams: &[StreamInterface], mark: &Mark) -> bool
+    ensures { result ≡ spec.names_stream streams.now (phrase_mark mark.now) }
 {
     match mark.kind {
         MarkKind::Out => has_out(streams, mark.interface),
@@ -76,10 +76,10 @@ fn is_placed(streams: &[StreamInterface], mark: &Mark) -> bool
 }
 
 /// Whether each mark does.
-pub fn are_placed(streams: &[StreamInterface], marks: &[Mark]) -> bool
-    ensures { result ≡ list_all (λ mark. spec.names_stream streams.now (said_mark mark)) marks.now }
+pub fn all_name_streams(streams: &[StreamInterface], marks: &[Mark]) -> bool
+    ensures { result ≡ list_all (λ mark. spec.names_stream streams.now (phrase_mark mark)) marks.now }
 {
-    marks.iter().all(|mark| is_placed(streams, mark))
+    marks.iter().all(|mark| names_stream(streams, mark))
 }
 
 /// The terminal of the interface of this number that carries a stream to the device.

@@ -3,14 +3,14 @@ ghost use Rattle.std.specs.Prelude.{◌≡◌, ℕ, ◌∷◌, [], ◌++◌, map
 ghost use Rattle.uac_edges.specs.Faults.{HasCause};
 ghost use Rattle.uac_edges.specs.Writing.{Writes};
 ghost use Rattle.uac_store.specs.Rates.{rate_of};
-ghost use Rattle.uac_units.specs.Panel.{readings};
+ghost use Rattle.uac_units.specs.MeterReadings.{readings};
 ghost use Rattle.uac_device.specs.DeviceKept.{DeviceStands};
 ghost use Rattle.uac_device.specs.DeviceWorld.{DeviceWorld};
 ghost use Rattle.uac_transcript.specs.Printing.{Prints};
 ghost use Rattle.uac_transcript.specs.Transcript.{says_meter, says_passed, says_renders, says_steady, spelling_of};
 ghost use Rattle.uac_running.specs.RunningKept.{tick_count_of};
 ghost use Rattle.uac_running.specs.RunningLines.{domain_line, stream_line};
-ghost use Rattle.uac_streaming.specs.StreamingWorld.{met_in, place_of};
+ghost use Rattle.uac_streaming.specs.StreamingWorld.{met_in, stream_index};
 
 use crate::counts::TickCount;
 use uac_device::Device;
@@ -111,7 +111,7 @@ fn write_stream<K: Sink>(
 ) -> Result<(), Failed>
     ensures written { (w : DeviceWorld) (met : ℕ → StreamCounts) (place : ℕ) → DeviceStands device.now w
         → streaming.now.met ≡ met_in met w.function
-        → place_of w.function stream.now.number ≡ Some place
+        → stream_index w.function stream.now.number ≡ Some place
         → Writes (K.written sink.old) (K.written sink.new) result (spelling_of (stream_line w met stream.now)) }
     ensures cause { HasCause (K.faults sink.old) (K.faults sink.new) result }
 {

@@ -1,12 +1,12 @@
 // A running device.
 ghost use Rattle.std.specs.Prelude.{◌≡◌, ℕ, ◌≤ℤ◌, pos, negsuc, List, map, filter, IfOk, OnOk, OnErr};
 ghost use Rattle.uac_units.specs.Hearing.{Reading};
-ghost use Rattle.uac_units.specs.Panel.{readings};
+ghost use Rattle.uac_units.specs.MeterReadings.{readings};
 ghost use Rattle.uac_edges.specs.Faults.{HasCause};
 ghost use Rattle.uac_edges.specs.Writing.{Writes};
-ghost use Rattle.uac_host.specs.Calls.{AreWhole};
+ghost use Rattle.uac_host.specs.HostCalls.{AreWhole};
 ghost use Rattle.uac_running.specs.RunningWorld.{RunningWorld, at_start};
-ghost use Rattle.uac_running.specs.RunningWorld.{with_detail, with_deviation, with_samples_on, with_tone, with_track};
+ghost use Rattle.uac_running.specs.RunningWorld.{with_detail, with_deviation, with_samples_on, with_jack_tone, with_track};
 ghost use Rattle.uac_running.specs.RunningWorld as spec;
 ghost use Rattle.uac_transcript.specs.Printing.{Prints};
 ghost use Rattle.uac_transcript.specs.Transcript.{spelling_of};
@@ -138,7 +138,7 @@ impl Running {
     /// An input jack gives this tone from now on, from its first frame.
     pub fn set_tone(&mut self, terminal: u8, tone: Tone)
         ensures stands { (meters : List Reading) (r : RunningWorld) → RunningStandsBetween self.old meters r
-            → RunningStandsBetween self.new meters (with_tone terminal tone r) }
+            → RunningStandsBetween self.new meters (with_jack_tone terminal tone r) }
         ensures function { self.new.device.function ≡ self.old.device.function }
     {
         set_tone(&mut self.jacks, terminal, tone);

@@ -4,10 +4,10 @@ ghost use Rattle.std.specs.Prelude.{IfSome};
 ghost use Rattle.std.specs.Option.{option_and_then, option_map, option_map_or};
 ghost use Rattle.uac_store.specs.StoreControls.{initial_controls};
 ghost use Rattle.uac_store.specs.Keyed.{value_of};
-ghost use Rattle.uac_request.specs.Requests.{answer_fields, value_bytes, sets_interface};
+ghost use Rattle.uac_request.specs.Requests.{answer_fields, value_bytes, sets_interface, is_done_answer};
 ghost use Rattle.uac_units.specs.Hearing.{Reading};
 ghost use Rattle.uac_edges.specs.Faults.{HasCause};
-ghost use Rattle.uac_device.specs.DeviceWorld.{DeviceWorld, fresh, tells_done};
+ghost use Rattle.uac_device.specs.DeviceWorld.{DeviceWorld, fresh};
 ghost use Rattle.uac_device.specs.DeviceKept as kept;
 ghost use Rattle.uac_mixer.specs.declared.element.Element.{Element};
 ghost use Rattle.uac_mixer.specs.MixerElements.{fits_element, name_of, width_of};
@@ -83,7 +83,7 @@ pub(crate) fn fresh_viewed(alloc: Global, function: Function) -> Result<Viewed, 
 /// Whether a device holds another setting of an interface after a transfer, of which it answered this last.
 fn holds_setting(setup: &Setup, last: Option<&Answer>) -> bool
     ensures { result ≡ (sets_interface setup.now
-        && option_map_or tells_done (option_map (λ answer. answer_fields answer.now) last.entry) false) }
+        && option_map_or is_done_answer (option_map (λ answer. answer_fields answer.now) last.entry) false) }
 {
     match last {
         Some(answer) => sets_interface(setup) && is_done(answer),

@@ -12,8 +12,8 @@ use Rattle.uac_script.specs.declared.line.Line.{Line}
 use Rattle.uac_script.specs.declared.lent.LentLine.{LentLine}
 use Rattle.uac_script.specs.Words.{Word, words_of, is_idle, hex_of}
 use Rattle.uac_script.specs.Phrase.{Phrase, nothing_line, bytes_line, go_line, control_line, get_line, set_line, show_line, break_line, append_line, track_line, jack_line, deviate_line, microframes_line, detail_line, report_line, is_in_range}
-use Rattle.uac_script.specs.Line.{IsRow, Spells, begins_known, phrase_of, HasNoEmptyPart, IsLineInRange, Says, IsOutOfRange, IsMisspelt, IsUnknown}
-use Rattle.uac_script.specs.Lent.{lent_phrase, lent_phrase_result, LentKeeps}
+use Rattle.uac_script.specs.Line.{IsRow, SpellsLine, begins_known, phrase_of, HasNoEmptyPart, IsLineInRange, Says, IsOutOfRange, IsMisspelt, IsUnknown}
+use Rattle.uac_script.specs.Lent.{lent_phrase, lent_phrase_result, IsLentInRange}
 use Rattle.uac_script.specs.LineReading.{row_of, verdict_of, row_verdict, answer_of, answer, phrase_result}
 use Rattle.uac_script.proofs.Grammar.{row_sound, row_complete, row_of-letter}
 
@@ -102,14 +102,14 @@ judged_not q false rule other h = other (sym (same_rule 4 rule h))
 idle_ok : (p : Phrase) → ◌≡◌ {A = Result Phrase ℕ} (Ok nothing_line) (Ok p) → (p ≡ nothing_line) × (is_in_range p ≡ true)
 idle_ok p h = let e : p ≡ nothing_line = cc in (e, ap is_in_range e)
 
-ok_then : (text : List ℕ) (p : Phrase) → Case text → answer text ≡ Ok p → Spells text p × (is_in_range p ≡ true)
+ok_then : (text : List ℕ) (p : Phrase) → Case text → answer text ≡ Ok p → SpellsLine text p × (is_in_range p ≡ true)
 ok_then text p (idles quiet e) h = let i = idle_ok p (sym e ∙ h) in (inl (quiet, i.0), i.1)
 ok_then text p (unknown a b e) h = cc
 ok_then text p (misspelt a b e) h = cc
 ok_then text p (spelt q row e) h =
     let j = judged_ok q p (is_in_range q) refl (sym e ∙ h) in (inr (subst (λ x. IsRow (words_of text) x) j.0 row), ap is_in_range (sym j.0) ∙ j.1)
 
-then_ok : (text : List ℕ) (p : Phrase) → Spells text p → is_in_range p ≡ true → answer text ≡ Ok p
+then_ok : (text : List ℕ) (p : Phrase) → SpellsLine text p → is_in_range p ≡ true → answer text ≡ Ok p
 unfolding answer
 then_ok text p (inl i) h = cond-true _ _ _ i.0 ∙ ap (λ x. Ok x) (sym i.1)
 then_ok text p (inr row) h = (answers text p row).answered ∙ cond-true _ _ _ h
@@ -126,7 +126,7 @@ then_four : (text : List ℕ) → IsOutOfRange text → answer text ≡ Err 4
 then_four text (p, inl i, h) = absurd (false≢true (sym h ∙ ap is_in_range i.1))
 then_four text (p, inr row, h) = (answers text p row).answered ∙ cond-false _ _ _ h
 
-never_spelt : (text : List ℕ) (rule : ℕ) → (rule ≡ 4 → ⊥) → is_idle text ≡ false → answer text ≡ Err rule → (p : Phrase) → Spells text p → ⊥
+never_spelt : (text : List ℕ) (rule : ℕ) → (rule ≡ 4 → ⊥) → is_idle text ≡ false → answer text ≡ Err rule → (p : Phrase) → SpellsLine text p → ⊥
 never_spelt text rule other quiet h p (inl i) = false≢true (sym quiet ∙ i.0)
 never_spelt text rule other quiet h p (inr row) = judged_not p (is_in_range p) rule other (sym (answers text p row).answered ∙ h)
 
@@ -194,7 +194,7 @@ row_there words (microframes_line z losses) h = tt
 row_there words (detail_line z) h = tt
 row_there words report_line h = tt
 
-spells_there : (text : List ℕ) (p : Phrase) → Spells text p → HasNoEmptyPart p
+spells_there : (text : List ℕ) (p : Phrase) → SpellsLine text p → HasNoEmptyPart p
 spells_there text p (inl i) = subst HasNoEmptyPart (sym i.1) tt
 spells_there text p (inr row) = row_there (words_of text) p row
 
@@ -245,7 +245,7 @@ pub read_refuses : (text : List ℕ) (r : Result Line ℕ) → phrase_result r �
 read_refuses text (Ok line) e = tt
 read_refuses text (Err rule) e = refuses_answer text (Err rule) e
 
-pub lent_keeps : (text : List ℕ) (r : Result LentLine ℕ) → lent_phrase_result r ≡ answer text → IfOk r LentKeeps
+pub lent_keeps : (text : List ℕ) (r : Result LentLine ℕ) → lent_phrase_result r ≡ answer text → IfOk r IsLentInRange
 lent_keeps text (Ok line) e = keeps_answer text (Ok (lent_phrase line)) e
 lent_keeps text (Err rule) e = tt
 

@@ -11,10 +11,10 @@ use Rattle.uac_script.specs.declared.line.MarkKind.TheVariants.{Out, In, Feedbac
 use Rattle.uac_script.specs.Words.{Word, hex_of}
 use Rattle.uac_edges.specs.Numerals.{numeral}
 use Rattle.uac_script.specs.ScriptNumerals.{is_number, value_of}
-use Rattle.uac_script.specs.Phrase.{SaidTone, silent, ramp_tone, noise_tone, SaidMark, Phrase, nothing_line, bytes_line, go_line, control_line, get_line, set_line, show_line, break_line, append_line, track_line, jack_line, deviate_line, microframes_line, detail_line, report_line}
+use Rattle.uac_script.specs.Phrase.{PhraseTone, silent, ramp_tone, noise_tone, PhraseMark, Phrase, nothing_line, bytes_line, go_line, control_line, get_line, set_line, show_line, break_line, append_line, track_line, jack_line, deviate_line, microframes_line, detail_line, report_line}
 use Rattle.uac_script.specs.Line.{IsRow, tone_words, letter_of, mark_word, letters}
-use Rattle.uac_script.specs.LineReading.{when_empty, only_of, pair_of, then_of, name_in, from_number, bytes_line_of, setup_of, sent_of, control_line_of, set_line_of, element_of, break_at, break_line_of, append_line_of, ramp_of, tone_read, signal_of, track_line_of, jack_line_of, deviation_of, deviate_line_of, kind_of, is_mark, mark_of, microframes_line_of, detail_line_of, row_of}
-use Rattle.uac_script.proofs.Numerals.{is_number-numeral, value_of-numeral, numeral-value_of}
+use Rattle.uac_script.specs.LineReading.{when_empty, only_of, pair_of, then_of, name_in, from_number, bytes_line_of, setup_bytes_in, sent_of, control_line_of, set_line_of, element_line_of, break_line_at, break_line_of, append_line_of, ramp_of, tone_read, signal_of, track_line_of, jack_line_of, deviation_of, deviate_line_of, kind_of, is_mark, mark_of, microframes_line_of, detail_line_of, row_of}
+use Rattle.uac_script.proofs.ScriptNumeralsUniqueLemmas.{is_number-numeral, value_of-numeral, numeral-value_of}
 
 -- ---- what a step of reading needs to give something
 
@@ -71,7 +71,7 @@ alone_sound letter words alone p row h =
     let e = empty_some alone p words h in
     subst (λ q. IsRow ((letter ∷ []) ∷ words) q) e.1 (subst (λ ws. IsRow ((letter ∷ []) ∷ ws) alone) (sym e.0) row)
 
-setup_some : (word : Word) (setup : List ℕ) → setup_of word ≡ Some setup → (hex_of word ≡ Some setup) × (length setup ≡ 8)
+setup_some : (word : Word) (setup : List ℕ) → setup_bytes_in word ≡ Some setup → (hex_of word ≡ Some setup) × (length setup ≡ 8)
 setup_some word setup h =
     let t = then_some (λ bytes. cond (eqb (length bytes) 8) (Some bytes) None) (hex_of word) setup h in
     let parts = cond_some (eqb (length t.0) 8) t.0 setup t.2 in
@@ -88,7 +88,7 @@ controls_sound : (words : List Word) (p : Phrase) → control_line_of words ≡ 
 unfolding Allows
 controls_sound [] p h = cc
 controls_sound (head ∷ words) p h =
-    let t = then_some (λ setup. option_map (control_line setup) (sent_of words)) (setup_of head) p h in
+    let t = then_some (λ setup. option_map (control_line setup) (sent_of words)) (setup_bytes_in head) p h in
     let m = map_some (control_line t.0) (sent_of words) p t.2 in
     let s = setup_some head t.0 t.1 in
     subst (λ q. IsRow ((99 ∷ []) ∷ head ∷ words) q) m.2 (head, s.0, s.1, sent_some head words m.0 m.1)
@@ -96,7 +96,7 @@ controls_sound (head ∷ words) p h =
 breaks_sound : (words : List Word) (p : Phrase) → break_line_of words ≡ Some p → Allows 98 words p
 unfolding Allows
 breaks_sound words p h =
-    let o = then_some break_at (only_of words) p h in
+    let o = then_some break_line_at (only_of words) p h in
     let e = only_some words o.0 o.1 in
     chosen (bytes_eq o.0 (codes "before")) (Some (break_line false)) _ (Some p) o.2 (λ t x. subst (λ q. IsRow ((98 ∷ []) ∷ words) q) (same_Some _ _ x) (ap (λ ws. (98 ∷ []) ∷ ws) (e ∙ ap (λ w. w ∷ []) (same_word o.0 _ t))))
     (λ t x. let parts = cond_some (bytes_eq o.0 (codes "after")) (break_line true) p x in subst (λ q. IsRow ((98 ∷ []) ∷ words) q) parts.1 (ap (λ ws. (98 ∷ []) ∷ ws) (e ∙ ap (λ w. w ∷ []) (same_word o.0 _ parts.0))))
@@ -152,7 +152,7 @@ sets_sound verb words p same h =
     ))
     (λ _ x. cc)
 
-element_sound : (words : List Word) (p : Phrase) → element_of words ≡ Some p → Allows 104 words p
+element_sound : (words : List Word) (p : Phrase) → element_line_of words ≡ Some p → Allows 104 words p
 element_sound [] p h = cc
 element_sound (verb ∷ words) p h =
     chosen (bytes_eq verb (codes "get")) (option_map get_line (then_of name_in (only_of words))) _ (Some p) h
@@ -181,7 +181,7 @@ appends_sound (word ∷ sample ∷ samples) p h =
       λ empty. cc,
     )
 
-ramp_sound : (words : List Word) (v : SaidTone) → then_of ramp_of (pair_of words) ≡ Some v → codes "ramp" ∷ words ≡ tone_words v
+ramp_sound : (words : List Word) (v : PhraseTone) → then_of ramp_of (pair_of words) ≡ Some v → codes "ramp" ∷ words ≡ tone_words v
 ramp_sound words v h =
     let t = then_some ramp_of (pair_of words) v h in
     let parts = cond_some (is_number t.0.0 && is_number t.0.1) (ramp_tone (value_of t.0.0) (value_of t.0.1)) v t.2 in
@@ -189,16 +189,16 @@ ramp_sound words v h =
     ap (λ ws. codes "ramp" ∷ ws) (pair_some words t.0 t.1 ∙ ap (λ w. w ∷ t.0.1 ∷ []) (numeral-value_of t.0.0 numbers.0) ∙ ap (λ w. numeral (value_of t.0.0) ∷ w ∷ []) (numeral-value_of t.0.1 numbers.1))
     ∙ ap tone_words parts.1
 
-noise_sound : (words : List Word) (v : SaidTone) → then_of (from_number noise_tone) (only_of words) ≡ Some v → codes "noise" ∷ words ≡ tone_words v
+noise_sound : (words : List Word) (v : PhraseTone) → then_of (from_number noise_tone) (only_of words) ≡ Some v → codes "noise" ∷ words ≡ tone_words v
 noise_sound words v h =
     let t = then_some (from_number noise_tone) (only_of words) v h in
     let parts = cond_some (is_number t.0) (noise_tone (value_of t.0)) v t.2 in
     ap (λ ws. codes "noise" ∷ ws) (only_some words t.0 t.1 ∙ ap (λ w. w ∷ []) (numeral-value_of t.0 parts.0)) ∙ ap tone_words parts.1
 
-silent_sound : (words : List Word) (v : SaidTone) → when_empty silent words ≡ Some v → codes "none" ∷ words ≡ tone_words v
+silent_sound : (words : List Word) (v : PhraseTone) → when_empty silent words ≡ Some v → codes "none" ∷ words ≡ tone_words v
 silent_sound words v h = let e = empty_some silent v words h in ap (λ ws. codes "none" ∷ ws) e.0 ∙ ap tone_words e.1
 
-voice_sound : (words : List Word) (v : SaidTone) → tone_read words ≡ Some v → words ≡ tone_words v
+voice_sound : (words : List Word) (v : PhraseTone) → tone_read words ≡ Some v → words ≡ tone_words v
 voice_sound [] v h = cc
 voice_sound (kind ∷ words) v h =
     chosen (bytes_eq kind (codes "none")) (when_empty silent words) _ (Some v) h
@@ -209,25 +209,25 @@ voice_sound (kind ∷ words) v h =
     (λ t x. ap (λ w. w ∷ words) (same_word kind _ t) ∙ noise_sound words v x)
     (λ _ x. cc)))
 
-signal_sound : (words : List Word) (signal : ℤ × SaidTone) → signal_of words ≡ Some signal → words ≡ numeral signal.0 ∷ tone_words signal.1
+signal_sound : (words : List Word) (signal : ℤ × PhraseTone) → signal_of words ≡ Some signal → words ≡ numeral signal.0 ∷ tone_words signal.1
 signal_sound [] signal h = cc
 signal_sound (word ∷ words) signal h =
-    chosen (is_number word) (option_map (λ voice. (value_of word, voice)) (tone_read words)) None (Some signal) h
+    chosen (is_number word) (option_map (λ tone. (value_of word, tone)) (tone_read words)) None (Some signal) h
     (λ number x.
-    let m = map_some (λ voice. (value_of word, voice)) (tone_read words) signal x in
-    ap (λ w. w ∷ words) (numeral-value_of word number) ∙ ap (λ ws. numeral (value_of word) ∷ ws) (voice_sound words m.0 m.1) ∙ ap (λ (s : ℤ × SaidTone). numeral s.0 ∷ tone_words s.1) m.2)
+    let m = map_some (λ tone. (value_of word, tone)) (tone_read words) signal x in
+    ap (λ w. w ∷ words) (numeral-value_of word number) ∙ ap (λ ws. numeral (value_of word) ∷ ws) (voice_sound words m.0 m.1) ∙ ap (λ (s : ℤ × PhraseTone). numeral s.0 ∷ tone_words s.1) m.2)
     (λ _ x. cc)
 
 tracks_sound : (words : List Word) (p : Phrase) → track_line_of words ≡ Some p → Allows 116 words p
 unfolding Allows
 tracks_sound words p h =
-    let m = map_some (λ (signal : ℤ × SaidTone). track_line signal.0 signal.1) (signal_of words) p h in
+    let m = map_some (λ (signal : ℤ × PhraseTone). track_line signal.0 signal.1) (signal_of words) p h in
     subst (λ q. IsRow ((116 ∷ []) ∷ words) q) m.2 (ap (λ ws. (116 ∷ []) ∷ ws) (signal_sound words m.0 m.1))
 
 jacks_sound : (words : List Word) (p : Phrase) → jack_line_of words ≡ Some p → Allows 106 words p
 unfolding Allows
 jacks_sound words p h =
-    let m = map_some (λ (signal : ℤ × SaidTone). jack_line signal.0 signal.1) (signal_of words) p h in
+    let m = map_some (λ (signal : ℤ × PhraseTone). jack_line signal.0 signal.1) (signal_of words) p h in
     subst (λ q. IsRow ((106 ∷ []) ∷ words) q) m.2 (ap (λ ws. (106 ∷ []) ∷ ws) (signal_sound words m.0 m.1))
 
 kind_by : Bool → Bool → Bool → Option MarkKind
@@ -281,7 +281,7 @@ row_sound letter words p h =
     row_step (eqb letter 100) (bytes_line_of words) _ p h (λ t r. at_letter letter 100 words p t (feeds_sound words p r)) (λ h.
     row_step (eqb letter 103) (when_empty go_line words) _ p h (λ t r. at_letter letter 103 words p t (alone_sound 103 words go_line p refl r)) (λ h.
     row_step (eqb letter 99) (control_line_of words) _ p h (λ t r. at_letter letter 99 words p t (controls_sound words p r)) (λ h.
-    row_step (eqb letter 104) (element_of words) _ p h (λ t r. at_letter letter 104 words p t (element_sound words p r)) (λ h.
+    row_step (eqb letter 104) (element_line_of words) _ p h (λ t r. at_letter letter 104 words p t (element_sound words p r)) (λ h.
     row_step (eqb letter 98) (break_line_of words) _ p h (λ t r. at_letter letter 98 words p t (breaks_sound words p r)) (λ h.
     row_step (eqb letter 97) (append_line_of words) _ p h (λ t r. at_letter letter 97 words p t (appends_sound words p r)) (λ h.
     row_step (eqb letter 116) (track_line_of words) _ p h (λ t r. at_letter letter 116 words p t (tracks_sound words p r)) (λ h.
@@ -313,21 +313,21 @@ kind_read Out = refl
 kind_read In = refl
 kind_read Feedback = refl
 
-loss_with : MarkKind → ℤ → SaidMark
+loss_with : MarkKind → ℤ → PhraseMark
 loss_with kind z = record { kind = kind; interface = z }
 
-mark_read : (loss : SaidMark) → (is_mark (mark_word loss) ≡ true) × (mark_of (mark_word loss) ≡ loss)
+mark_read : (loss : PhraseMark) → (is_mark (mark_word loss) ≡ true) × (mark_of (mark_word loss) ≡ loss)
 unfolding loss_with
 mark_read loss = (
   and_from _ _ (ap is_some (kind_read loss.kind)) (is_number-numeral loss.interface),
   ap (λ o. loss_with (unwrap_or o Out) (value_of (numeral loss.interface))) (kind_read loss.kind) ∙ ap (loss_with loss.kind) (value_of-numeral loss.interface),
 )
 
-marks_read : (losses : List SaidMark) → list_all is_mark (map mark_word losses) ≡ true
+marks_read : (losses : List PhraseMark) → list_all is_mark (map mark_word losses) ≡ true
 marks_read [] = refl
 marks_read (loss ∷ losses) = and_from _ _ (mark_read loss).0 (marks_read losses)
 
-losses_read : (losses : List SaidMark) → map mark_of (map mark_word losses) ≡ losses
+losses_read : (losses : List PhraseMark) → map mark_of (map mark_word losses) ≡ losses
 losses_read [] = refl
 losses_read (loss ∷ losses) = ap (λ x. x ∷ map mark_of (map mark_word losses)) (mark_read loss).1 ∙ ap (λ xs. loss ∷ xs) (losses_read losses)
 
@@ -335,12 +335,12 @@ name_read : (name : Word) → name ≢ [] → name_in name ≡ Some name
 name_read [] h = absurd (h refl)
 name_read (c ∷ name) h = refl
 
-voice_read : (v : SaidTone) → tone_read (tone_words v) ≡ Some v
+voice_read : (v : PhraseTone) → tone_read (tone_words v) ≡ Some v
 voice_read silent = refl
 voice_read (ramp_tone start step) = simp (is_number-numeral, value_of-numeral)
 voice_read (noise_tone seed) = simp (is_number-numeral, value_of-numeral)
 
-signal_read : (z : ℤ) (v : SaidTone) → signal_of (numeral z ∷ tone_words v) ≡ Some (z, v)
+signal_read : (z : ℤ) (v : PhraseTone) → signal_of (numeral z ∷ tone_words v) ≡ Some (z, v)
 signal_read z v = simp (is_number-numeral, value_of-numeral, voice_read)
 
 appends_read : (z : ℤ) (samples : List ℤ) → samples ≢ [] → append_line_of (numeral z ∷ map numeral samples) ≡ Some (append_line z samples)
@@ -349,16 +349,16 @@ appends_read z (sample ∷ samples) h =
     cond-true _ _ _ (and_from _ _ (is_number-numeral z) (numbers_read (sample ∷ samples)))
     ∙ ap (λ v. Some (append_line v (map value_of (map numeral (sample ∷ samples))))) (value_of-numeral z) ∙ ap (λ vs. Some (append_line z vs)) (values_read (sample ∷ samples))
 
-runs_read : (z : ℤ) (losses : List SaidMark) → microframes_line_of (numeral z ∷ map mark_word losses) ≡ Some (microframes_line z losses)
+runs_read : (z : ℤ) (losses : List PhraseMark) → microframes_line_of (numeral z ∷ map mark_word losses) ≡ Some (microframes_line z losses)
 runs_read z losses = simp (is_number-numeral, value_of-numeral, marks_read, losses_read)
 
-setup_read : (head : Word) (setup : List ℕ) → hex_of head ≡ Some setup → length setup ≡ 8 → setup_of head ≡ Some setup
+setup_read : (head : Word) (setup : List ℕ) → hex_of head ≡ Some setup → length setup ≡ 8 → setup_bytes_in head ≡ Some setup
 setup_read head setup h eight = ap (then_of (λ bytes. cond (eqb (length bytes) 8) (Some bytes) None)) h ∙ cond-true _ _ _ (eq-eqb _ 8 eight)
 
-controls_alone : (head : Word) (setup sent : List ℕ) → setup_of head ≡ Some setup → sent ≡ [] → control_line_of (head ∷ []) ≡ Some (control_line setup sent)
+controls_alone : (head : Word) (setup sent : List ℕ) → setup_bytes_in head ≡ Some setup → sent ≡ [] → control_line_of (head ∷ []) ≡ Some (control_line setup sent)
 controls_alone head setup sent h none = ap (then_of (λ setup. Some (control_line setup []))) h ∙ ap (λ bytes. Some (control_line setup bytes)) (sym none)
 
-controls_sending : (head digits : Word) (setup sent : List ℕ) → setup_of head ≡ Some setup → hex_of digits ≡ Some sent → control_line_of (head ∷ digits ∷ []) ≡ Some (control_line setup sent)
+controls_sending : (head digits : Word) (setup sent : List ℕ) → setup_bytes_in head ≡ Some setup → hex_of digits ≡ Some sent → control_line_of (head ∷ digits ∷ []) ≡ Some (control_line setup sent)
 controls_sending head digits setup sent h bytes = ap (then_of (λ setup. option_map (control_line setup) (hex_of digits))) h ∙ ap (option_map (control_line setup)) bytes
 
 pub row_complete : (words : List Word) (p : Phrase) → IsRow words p → IsRead words p
@@ -377,8 +377,8 @@ row_complete words (show_line name) h = record { letter = 104; following = codes
 row_complete words (break_line true) h = record { letter = 98; following = codes "after" ∷ []; words-is = h; row-is = refl }
 row_complete words (break_line false) h = record { letter = 98; following = codes "before" ∷ []; words-is = h; row-is = refl }
 row_complete words (append_line z samples) h = record { letter = 97; following = numeral z ∷ map numeral samples; words-is = h.0; row-is = ap (λ o. Some o) (appends_read z samples h.1) }
-row_complete words (track_line z v) h = record { letter = 116; following = numeral z ∷ tone_words v; words-is = h; row-is = ap (λ o. Some (option_map (λ (signal : ℤ × SaidTone). track_line signal.0 signal.1) o)) (signal_read z v) }
-row_complete words (jack_line z v) h = record { letter = 106; following = numeral z ∷ tone_words v; words-is = h; row-is = ap (λ o. Some (option_map (λ (signal : ℤ × SaidTone). jack_line signal.0 signal.1) o)) (signal_read z v) }
+row_complete words (track_line z v) h = record { letter = 116; following = numeral z ∷ tone_words v; words-is = h; row-is = ap (λ o. Some (option_map (λ (signal : ℤ × PhraseTone). track_line signal.0 signal.1) o)) (signal_read z v) }
+row_complete words (jack_line z v) h = record { letter = 106; following = numeral z ∷ tone_words v; words-is = h; row-is = ap (λ o. Some (option_map (λ (signal : ℤ × PhraseTone). jack_line signal.0 signal.1) o)) (signal_read z v) }
 row_complete words (deviate_line y z) h = record { letter = 107; following = numeral y ∷ numeral z ∷ []; words-is = h; row-is = simp (is_number-numeral, value_of-numeral) }
 row_complete words (microframes_line z losses) h = record { letter = 109; following = numeral z ∷ map mark_word losses; words-is = h; row-is = ap (λ o. Some o) (runs_read z losses) }
 row_complete words (detail_line z) h = record { letter = 118; following = numeral z ∷ []; words-is = h; row-is = simp (is_number-numeral, value_of-numeral) }

@@ -8,7 +8,7 @@ use Rattle.arrayvec.specs.ArrayVec.{ArrayVec}
 use Rattle.uac_script.specs.declared.line.Mark.{Mark}
 use Rattle.uac_script.specs.declared.line.Line.TheVariants.{Deviate, Run, Detail}
 use Rattle.uac_script.specs.Phrase.{is_within, is_id}
-use Rattle.uac_script.specs.Line.{IsLineInRange, said_mark}
+use Rattle.uac_script.specs.Line.{IsLineInRange, phrase_mark}
 
 at_most : (least z : ℤ) → int_le least z ≡ true → least ≤ℤ z
 at_most least z h = grind (arith, ints)
@@ -25,7 +25,7 @@ pub kept_run : (count : ℕ) (marks : ArrayVec Mark) → IsLineInRange (Run coun
 kept_run count marks h =
     let parts = and_parts (is_within (pos 1) (pos 8000) (pos count)) _ h.0 in
     let bounds = and_parts _ _ parts.0 in
-    let few = leb-true (length (map said_mark marks.items)) 24 (and_parts _ _ parts.1).1 in
+    let few = leb-true (length (map phrase_mark marks.items)) 24 (and_parts _ _ parts.1).1 in
     (leb-true 1 count bounds.0, leb-true count 8000 bounds.1, simp length-map at few)
 
 pub kept_detail : (level : ℕ) → IsLineInRange (Detail level) → level ≤ 2

@@ -5,7 +5,7 @@ pub mod WordsLemmas
 pub mod ScriptNumeralsLemmas
 pub mod SetupBytes
 pub mod GrowingLists
-pub mod Numerals
+pub mod ScriptNumeralsUniqueLemmas
 pub mod Grammar
 pub mod Answered
 pub mod Spellings

@@ -6,7 +6,7 @@ use Rattle.hex.specs.Hex.{decode_of, decode_sized}
 use Rattle.hex.specs.declared.error.FromHexError.{FromHexError}
 use Rattle.hex.proofs.HexLemmas.{decode_of-ok, decode_sized-twice, decode_sized-other, decode_sized-odd}
 use Rattle.uac_script.specs.Words.{Word}
-use Rattle.uac_script.specs.LineReading.{setup_of, then_of}
+use Rattle.uac_script.specs.LineReading.{setup_bytes_in, then_of}
 
 eight : Option (List ℕ) → Option (List ℕ)
 eight read = then_of (λ bytes. cond (eqb (length bytes) 8) (Some bytes) None) read
@@ -32,7 +32,7 @@ eight_of s (Ok bytes) h =
       | inr other ↦ not_sixteen s other ∙ sym (cond-false _ _ _ (ne_eqb (length bytes) 8 (λ e. other (omega arith))))
     ]
 
-pub setup_is : (word : Word) → result_ok (decode_sized word 8) ≡ setup_of word
+pub setup_is : (word : Word) → result_ok (decode_sized word 8) ≡ setup_bytes_in word
 unfolding eight
 setup_is [] = refl
 setup_is (c ∷ rest) = eight_of (c ∷ rest) _ refl

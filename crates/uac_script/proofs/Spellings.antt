@@ -13,8 +13,8 @@ use Rattle.uac_script.specs.declared.line.Mark.{Mark}
 use Rattle.uac_script.specs.declared.line.Line.{Line}
 use Rattle.uac_script.specs.declared.line.Line.TheVariants.{Nothing, Bytes, Go, Control, Get, Set, Show, Break, Append, Track, Jack, Deviate, Run, Detail, Report}
 use Rattle.uac_script.specs.Words.{Word, words_of, hex_of}
-use Rattle.uac_script.specs.Phrase.{SaidTone, silent, ramp_tone, noise_tone, SaidMark, Phrase, nothing_line, bytes_line, go_line, control_line, get_line, set_line, show_line, break_line, append_line, track_line, jack_line, deviate_line, microframes_line, detail_line, report_line}
-use Rattle.uac_script.specs.Line.{Spells, phrase_of, said_tone_of, said_mark}
+use Rattle.uac_script.specs.Phrase.{PhraseTone, silent, ramp_tone, noise_tone, PhraseMark, Phrase, nothing_line, bytes_line, go_line, control_line, get_line, set_line, show_line, break_line, append_line, track_line, jack_line, deviate_line, microframes_line, detail_line, report_line}
+use Rattle.uac_script.specs.Line.{SpellsLine, phrase_of, phrase_tone_of, phrase_mark}
 use Rattle.uac_script.specs.LineReading.{row_of}
 use Rattle.uac_script.proofs.Grammar.{IsRead, row_complete}
 use Rattle.uac_script.proofs.Answered.{answers}
@@ -73,7 +73,7 @@ read_once words p q a b =
     let following : a.following ≡ b.following = cc in
     same_Some _ _ (same_Some _ _ (sym a.row-is ∙ ap (λ l. row_of l a.following) letter ∙ ap (row_of b.letter) following ∙ b.row-is))
 
-pub one_line : (text : List ℕ) (p q : Phrase) → Spells text p → Spells text q → p ≡ q
+pub one_line : (text : List ℕ) (p q : Phrase) → SpellsLine text p → SpellsLine text q → p ≡ q
 one_line text p q (inl a) (inl b) = a.1 ∙ sym b.1
 one_line text p q (inl a) (inr b) = absurd (false≢true (sym (answers text q b).not_idle ∙ a.0))
 one_line text p q (inr a) (inl b) = absurd (false≢true (sym (answers text p a).not_idle ∙ b.0))
@@ -85,12 +85,12 @@ size : ℤ → ℕ
 size (pos n) = n
 size (negsuc n) = 0
 
-tone_back : SaidTone → Tone
+tone_back : PhraseTone → Tone
 tone_back silent = Silent
 tone_back (ramp_tone start step) = Ramp start step
 tone_back (noise_tone seed) = Noise (size seed)
 
-mark_back : SaidMark → Mark
+mark_back : PhraseMark → Mark
 mark_back loss = record { kind = loss.kind; interface = size loss.interface }
 
 line_back : Phrase → Line
@@ -103,20 +103,20 @@ line_back (set_line name value) = Set (record { items = name }) value
 line_back (show_line name) = Show (record { items = name })
 line_back (break_line after) = Break after
 line_back (append_line interface samples) = Append (size interface) (record { items = samples })
-line_back (track_line interface voice) = Track (size interface) (tone_back voice)
-line_back (jack_line terminal voice) = Jack (size terminal) (tone_back voice)
+line_back (track_line interface tone) = Track (size interface) (tone_back tone)
+line_back (jack_line terminal tone) = Jack (size terminal) (tone_back tone)
 line_back (deviate_line domain ppm) = Deviate (size domain) ppm
 line_back (microframes_line count losses) = Run (size count) (record { items = map mark_back losses })
 line_back (detail_line level) = Detail (size level)
 line_back report_line = Report
 
-tone_same : (tone : Tone) → tone_back (said_tone_of tone) ≡ tone
+tone_same : (tone : Tone) → tone_back (phrase_tone_of tone) ≡ tone
 unfolding tone_back size
 tone_same Silent = refl
 tone_same (Ramp start step) = refl
 tone_same (Noise seed) = refl
 
-marks_same : (marks : List Mark) → map mark_back (map said_mark marks) ≡ marks
+marks_same : (marks : List Mark) → map mark_back (map phrase_mark marks) ≡ marks
 unfolding mark_back size
 marks_same [] = refl
 marks_same (mark ∷ marks) = ap (λ ms. mark ∷ ms) (marks_same marks)

@@ -6,7 +6,7 @@ use Rattle.uac_script.specs.declared.lent.LentLine.TheVariants.{Deviate, Run, De
 use Rattle.uac_script.specs.Phrase.{Phrase, nothing_line, bytes_line, go_line, control_line, get_line, set_line, show_line, break_line}
 use Rattle.uac_script.specs.Phrase.{append_line, track_line, jack_line, deviate_line, microframes_line}
 use Rattle.uac_script.specs.Phrase.{detail_line, report_line, is_in_range}
-use Rattle.uac_script.specs.Line.{said_tone_of, said_mark, HasNoEmptyPart}
+use Rattle.uac_script.specs.Line.{phrase_tone_of, phrase_mark, HasNoEmptyPart}
 
 -- the line that a value stands for
 abbrev pub lent_phrase : LentLine → Phrase
@@ -19,10 +19,10 @@ lent_phrase (Set name value) = set_line name.now value
 lent_phrase (Show name) = show_line name.now
 lent_phrase (Break after) = break_line after
 lent_phrase (Append interface samples) = append_line (pos interface) samples.now
-lent_phrase (Track interface tone) = track_line (pos interface) (said_tone_of tone)
-lent_phrase (Jack terminal tone) = jack_line (pos terminal) (said_tone_of tone)
+lent_phrase (Track interface tone) = track_line (pos interface) (phrase_tone_of tone)
+lent_phrase (Jack terminal tone) = jack_line (pos terminal) (phrase_tone_of tone)
 lent_phrase (Deviate domain ppm) = deviate_line (pos domain) ppm
-lent_phrase (Run count marks) = microframes_line (pos count) (map said_mark marks.now)
+lent_phrase (Run count marks) = microframes_line (pos count) (map phrase_mark marks.now)
 lent_phrase (Detail level) = detail_line (pos level)
 lent_phrase Report = report_line
 
@@ -43,5 +43,5 @@ Fits (Run count marks) = length marks.now ≤ 24
 Fits _ = Unit {0}
 
 -- a line that `LentLine::read` gives: each number in its range, no part empty
-abbrev pub LentKeeps : LentLine → Type 0
-LentKeeps line = (is_in_range (lent_phrase line) ≡ true) × HasNoEmptyPart (lent_phrase line)
+abbrev pub IsLentInRange : LentLine → Type 0
+IsLentInRange line = (is_in_range (lent_phrase line) ≡ true) × HasNoEmptyPart (lent_phrase line)

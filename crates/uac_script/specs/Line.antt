@@ -12,7 +12,7 @@ use Rattle.uac_script.specs.declared.line.Line.TheVariants.{Nothing, Bytes, Go, 
 use Rattle.uac_script.specs.declared.line.Line.TheVariants.{Deviate, Run, Detail, Report}
 use Rattle.uac_script.specs.Words.{Word, words_of, is_idle, hex_of}
 use Rattle.uac_edges.specs.Numerals.{numeral}
-use Rattle.uac_script.specs.Phrase.{SaidTone, silent, ramp_tone, noise_tone, SaidMark}
+use Rattle.uac_script.specs.Phrase.{PhraseTone, silent, ramp_tone, noise_tone, PhraseMark}
 use Rattle.uac_script.specs.Phrase.{Phrase, nothing_line, bytes_line, go_line, control_line, get_line, set_line, show_line, break_line}
 use Rattle.uac_script.specs.Phrase.{append_line, track_line, jack_line, deviate_line, microframes_line, detail_line, report_line}
 use Rattle.uac_script.specs.Phrase.{is_in_range}
@@ -20,7 +20,7 @@ use Rattle.uac_script.specs.Phrase.{is_in_range}
 -- ---- how a line is spelt
 
 -- the words of a tone, after the id that it is for
-abbrev pub tone_words : SaidTone → List Word
+abbrev pub tone_words : PhraseTone → List Word
 tone_words silent = codes "none" ∷ []
 tone_words (ramp_tone start step) = codes "ramp" ∷ numeral start ∷ numeral step ∷ []
 tone_words (noise_tone seed) = codes "noise" ∷ numeral seed ∷ []
@@ -31,7 +31,7 @@ letter_of In = 105
 letter_of Feedback = 102
 
 -- a mark: `o`, `i` or `f` and the interface's number, in one word
-abbrev pub mark_word : SaidMark → Word
+abbrev pub mark_word : PhraseMark → Word
 mark_word mark = letter_of mark.kind ∷ numeral mark.interface
 
 -- the words make the line: each case is a row of the table of lines
@@ -55,8 +55,8 @@ IsRow words (detail_line level) = words ≡ codes "v" ∷ numeral level ∷ []
 IsRow words report_line = words ≡ codes "q" ∷ []
 
 -- the text spells the line: it does nothing and the line is the idle one, or its words make the line
-abbrev pub Spells : List ℕ → Phrase → Type 0
-Spells text phrase = ((is_idle text ≡ true) × (phrase ≡ nothing_line)) ⊎ IsRow (words_of text) phrase
+abbrev pub SpellsLine : List ℕ → Phrase → Type 0
+SpellsLine text phrase = ((is_idle text ≡ true) × (phrase ≡ nothing_line)) ⊎ IsRow (words_of text) phrase
 
 -- the first words of the table of lines, each of one letter
 abbrev pub letters : List ℕ
@@ -74,13 +74,13 @@ begins_known (word ∷ words) = is_letter word
 
 -- ---- what a value of the type says
 
-abbrev pub said_tone_of : Tone → SaidTone
-said_tone_of Silent = silent
-said_tone_of (Ramp start step) = ramp_tone start step
-said_tone_of (Noise seed) = noise_tone (pos seed)
+abbrev pub phrase_tone_of : Tone → PhraseTone
+phrase_tone_of Silent = silent
+phrase_tone_of (Ramp start step) = ramp_tone start step
+phrase_tone_of (Noise seed) = noise_tone (pos seed)
 
-abbrev pub said_mark : Mark → SaidMark
-said_mark mark = record { kind = mark.kind; interface = pos mark.interface }
+abbrev pub phrase_mark : Mark → PhraseMark
+phrase_mark mark = record { kind = mark.kind; interface = pos mark.interface }
 
 -- the line that a value stands for; two values that stand for one line are the same
 abbrev pub phrase_of : Line → Phrase
@@ -93,10 +93,10 @@ phrase_of (Set name value) = set_line name.items value
 phrase_of (Show name) = show_line name.items
 phrase_of (Break after) = break_line after
 phrase_of (Append interface samples) = append_line (pos interface) samples.items
-phrase_of (Track interface tone) = track_line (pos interface) (said_tone_of tone)
-phrase_of (Jack terminal tone) = jack_line (pos terminal) (said_tone_of tone)
+phrase_of (Track interface tone) = track_line (pos interface) (phrase_tone_of tone)
+phrase_of (Jack terminal tone) = jack_line (pos terminal) (phrase_tone_of tone)
 phrase_of (Deviate domain ppm) = deviate_line (pos domain) ppm
-phrase_of (Run count marks) = microframes_line (pos count) (map said_mark marks.items)
+phrase_of (Run count marks) = microframes_line (pos count) (map phrase_mark marks.items)
 phrase_of (Detail level) = detail_line (pos level)
 phrase_of Report = report_line
 
@@ -117,11 +117,11 @@ IsLineInRange line = (is_in_range (phrase_of line) ≡ true) × HasNoEmptyPart (
 
 -- rule S4: the text is a line, but for a number out of its range
 abbrev pub IsOutOfRange : List ℕ → Type 0
-IsOutOfRange text = (phrase : Phrase) × Spells text phrase × (is_in_range phrase ≡ false)
+IsOutOfRange text = (phrase : Phrase) × SpellsLine text phrase × (is_in_range phrase ≡ false)
 
 -- rule S3: the first word is known, and the text is no line
 abbrev pub IsMisspelt : List ℕ → Type 0
-IsMisspelt text = (is_idle text ≡ false) × (begins_known (words_of text) ≡ true) × ((phrase : Phrase) → ¬ Spells text phrase)
+IsMisspelt text = (is_idle text ≡ false) × (begins_known (words_of text) ≡ true) × ((phrase : Phrase) → ¬ SpellsLine text phrase)
 
 -- rule S2: the first word isn't known
 abbrev pub IsUnknown : List ℕ → Type 0
@@ -129,5 +129,5 @@ IsUnknown text = (is_idle text ≡ false) × (begins_known (words_of text) ≡ f
 
 -- what a text says: the line that it spells, each number in its range, or the first of rules S2 to S4 that it breaks
 abbrev pub Says : List ℕ → Result Phrase ℕ → Type 0
-Says text (Ok phrase) = Spells text phrase × (is_in_range phrase ≡ true)
+Says text (Ok phrase) = SpellsLine text phrase × (is_in_range phrase ≡ true)
 Says text (Err rule) = ((rule ≡ 2) × IsUnknown text) ⊎ ((rule ≡ 3) × IsMisspelt text) ⊎ ((rule ≡ 4) × IsOutOfRange text)

@@ -11,12 +11,12 @@ use Rattle.uac_script.specs.declared.line.MarkKind.TheVariants.{Out, In, Feedbac
 use Rattle.uac_script.specs.declared.line.Line.{Line}
 use Rattle.uac_script.specs.Words.{Word, words_of, is_idle, hex_of}
 use Rattle.uac_script.specs.ScriptNumerals.{is_number, value_of}
-use Rattle.uac_script.specs.Phrase.{SaidTone, silent, ramp_tone, noise_tone, SaidMark}
+use Rattle.uac_script.specs.Phrase.{PhraseTone, silent, ramp_tone, noise_tone, PhraseMark}
 use Rattle.uac_script.specs.Phrase.{Phrase, nothing_line, bytes_line, go_line, control_line, get_line, set_line, show_line, break_line}
 use Rattle.uac_script.specs.Phrase.{append_line, track_line, jack_line, deviate_line, microframes_line, detail_line, report_line, is_id}
-use Rattle.uac_script.specs.Phrase.{is_signed, is_tone_in_range}
+use Rattle.uac_script.specs.Phrase.{is_in_32_bits, is_tone_in_range}
 use Rattle.uac_script.specs.Phrase.{is_in_range}
-use Rattle.uac_script.specs.Line.{phrase_of, said_tone_of}
+use Rattle.uac_script.specs.Line.{phrase_of, phrase_tone_of}
 
 -- nothing, or exactly one word
 abbrev pub when_empty : {A : Type 0} → A → List Word → Option A
@@ -50,8 +50,8 @@ from_number f word = if is_number word then Some (f (value_of word)) else None
 abbrev pub bytes_line_of : List Word → Option Phrase
 bytes_line_of words = then_of (λ word. option_map bytes_line (hex_of word)) (only_of words)
 
-abbrev pub setup_of : Word → Option (List ℕ)
-setup_of word = then_of (λ bytes. if length bytes == 8 then Some bytes else None) (hex_of word)
+abbrev pub setup_bytes_in : Word → Option (List ℕ)
+setup_bytes_in word = then_of (λ bytes. if length bytes == 8 then Some bytes else None) (hex_of word)
 
 -- the bytes sent: none, or one word of them
 abbrev pub sent_of : List Word → Option (List ℕ)
@@ -60,27 +60,27 @@ sent_of (word ∷ words) = then_of hex_of (only_of (word ∷ words))
 
 abbrev pub control_line_of : List Word → Option Phrase
 control_line_of [] = None
-control_line_of (word ∷ words) = then_of (λ setup. option_map (control_line setup) (sent_of words)) (setup_of word)
+control_line_of (word ∷ words) = then_of (λ setup. option_map (control_line setup) (sent_of words)) (setup_bytes_in word)
 
 abbrev pub set_line_of : Word × Word → Option Phrase
 set_line_of (name, numeral) = if is_number numeral then option_map (λ word. set_line word (value_of numeral)) (name_in name) else None
 
-abbrev pub element_of : List Word → Option Phrase
-element_of [] = None
-element_of (verb ∷ words) =
+abbrev pub element_line_of : List Word → Option Phrase
+element_line_of [] = None
+element_line_of (verb ∷ words) =
     if bytes_eq verb (codes "get") then option_map get_line (then_of name_in (only_of words))
     else if bytes_eq verb (codes "set") then then_of set_line_of (pair_of words)
     else if bytes_eq verb (codes "show") then option_map show_line (then_of name_in (only_of words))
     else None
 
-abbrev pub break_at : Word → Option Phrase
-break_at word =
+abbrev pub break_line_at : Word → Option Phrase
+break_line_at word =
     if bytes_eq word (codes "before") then Some (break_line false)
     else if bytes_eq word (codes "after") then Some (break_line true)
     else None
 
 abbrev pub break_line_of : List Word → Option Phrase
-break_line_of words = then_of break_at (only_of words)
+break_line_of words = then_of break_line_at (only_of words)
 
 abbrev pub append_line_of : List Word → Option Phrase
 append_line_of [] = None
@@ -89,10 +89,10 @@ append_line_of (word ∷ sample ∷ samples) =
     if is_number word && list_all is_number (sample ∷ samples) then Some (append_line (value_of word) (map value_of (sample ∷ samples)))
     else None
 
-abbrev pub ramp_of : Word × Word → Option SaidTone
+abbrev pub ramp_of : Word × Word → Option PhraseTone
 ramp_of (start, step) = if is_number start && is_number step then Some (ramp_tone (value_of start) (value_of step)) else None
 
-abbrev pub tone_read : List Word → Option SaidTone
+abbrev pub tone_read : List Word → Option PhraseTone
 tone_read [] = None
 tone_read (kind ∷ words) =
     if bytes_eq kind (codes "none") then when_empty silent words
@@ -101,7 +101,7 @@ tone_read (kind ∷ words) =
     else None
 
 -- an id and its tone
-abbrev pub signal_of : List Word → Option (ℤ × SaidTone)
+abbrev pub signal_of : List Word → Option (ℤ × PhraseTone)
 signal_of [] = None
 signal_of (word ∷ words) = if is_number word then option_map (λ tone. (value_of word, tone)) (tone_read words) else None
 
@@ -125,7 +125,7 @@ abbrev pub is_mark : Word → Bool
 is_mark [] = false
 is_mark (letter ∷ word) = is_some (kind_of letter) && is_number word
 
-abbrev pub mark_of : Word → SaidMark
+abbrev pub mark_of : Word → PhraseMark
 mark_of [] = record { kind = Out; interface = pos 0 }
 mark_of (letter ∷ word) = record { kind = unwrap_or (kind_of letter) Out; interface = value_of word }
 
@@ -143,7 +143,7 @@ row_of letter words =
     if letter == 100 then Some (bytes_line_of words)
     else if letter == 103 then Some (when_empty go_line words)
     else if letter == 99 then Some (control_line_of words)
-    else if letter == 104 then Some (element_of words)
+    else if letter == 104 then Some (element_line_of words)
     else if letter == 98 then Some (break_line_of words)
     else if letter == 97 then Some (append_line_of words)
     else if letter == 116 then Some (track_line_of words)
@@ -162,10 +162,10 @@ verdict_by is_right (Some x) = if is_right x then Ok x else Err 4
 abbrev pub verdict_of : Option Phrase → Result Phrase ℕ
 verdict_of row = verdict_by is_in_range row
 
-abbrev pub tone_verdict : Option SaidTone → Result SaidTone ℕ
+abbrev pub tone_verdict : Option PhraseTone → Result PhraseTone ℕ
 tone_verdict tone = verdict_by is_tone_in_range tone
 
-abbrev pub signal_verdict : Option (ℤ × SaidTone) → Result (ℤ × SaidTone) ℕ
+abbrev pub signal_verdict : Option (ℤ × PhraseTone) → Result (ℤ × PhraseTone) ℕ
 signal_verdict signal = verdict_by (λ s. is_id s.0 && is_tone_in_range s.1) signal
 
 abbrev pub row_verdict : Option (Option Phrase) → Result Phrase ℕ
@@ -186,14 +186,14 @@ abbrev pub phrase_result : Result Line ℕ → Result Phrase ℕ
 phrase_result (Ok line) = Ok (phrase_of line)
 phrase_result (Err rule) = Err rule
 
-abbrev pub tone_result : Result Tone ℕ → Result SaidTone ℕ
-tone_result (Ok tone) = Ok (said_tone_of tone)
+abbrev pub tone_result : Result Tone ℕ → Result PhraseTone ℕ
+tone_result (Ok tone) = Ok (phrase_tone_of tone)
 tone_result (Err rule) = Err rule
 
-abbrev pub signal_result : Result (ℕ × Tone) ℕ → Result (ℤ × SaidTone) ℕ
-signal_result (Ok signal) = Ok (pos signal.0, said_tone_of signal.1)
+abbrev pub signal_result : Result (ℕ × Tone) ℕ → Result (ℤ × PhraseTone) ℕ
+signal_result (Ok signal) = Ok (pos signal.0, phrase_tone_of signal.1)
 signal_result (Err rule) = Err rule
 
 -- the samples of these words: each in range, or nothing
 abbrev pub samples_of : List Word → Option (List ℤ)
-samples_of words = if list_all is_signed (map value_of words) then Some (map value_of words) else None
+samples_of words = if list_all is_in_32_bits (map value_of words) then Some (map value_of words) else None

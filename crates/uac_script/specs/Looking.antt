@@ -10,10 +10,10 @@ abbrev pub line_end : List ℕ → ℕ
 line_end bytes = position_or_len (λ b. b == 10) bytes
 
 -- what stands first in these bytes, of which so many count
-abbrev pub Shows : ℕ → List ℕ → Front → Type 0
-Shows spare bytes (front.Line size) =
+abbrev pub ShowsFront : ℕ → List ℕ → Front → Type 0
+ShowsFront spare bytes (front.Line size) =
     (head_of spare bytes ≡ line (take size bytes) (drop (size + 1) bytes)) × (size < length bytes) × (size < spare) × (size ≤ most_of_line)
-Shows spare bytes front.Long = head_of spare bytes ≡ long
-Shows spare bytes front.Past = head_of spare bytes ≡ past
-Shows spare bytes (front.Open size) =
+ShowsFront spare bytes front.Long = head_of spare bytes ≡ long
+ShowsFront spare bytes front.Past = head_of spare bytes ≡ past
+ShowsFront spare bytes (front.Open size) =
     (head_of spare bytes ≡ unended bytes) × (size ≡ length bytes) × (size ≤ spare) × (size ≤ most_of_line) × (line_end bytes ≡ size)

@@ -5,13 +5,13 @@ use Rattle.uac_script.specs.Words.{Word}
 use Rattle.uac_script.specs.declared.line.MarkKind.{MarkKind}
 
 -- a tone, with its numbers as they are spelt
-pub data SaidTone : Type 0 where
-  silent : SaidTone
-  ramp_tone : ℤ → ℤ → SaidTone
-  noise_tone : ℤ → SaidTone
+pub data PhraseTone : Type 0 where
+  silent : PhraseTone
+  ramp_tone : ℤ → ℤ → PhraseTone
+  noise_tone : ℤ → PhraseTone
 
 -- one packet or report to lose in each microframe: of which kind, and of which interface
-pub record SaidMark : Type 0 where
+pub record PhraseMark : Type 0 where
   pub kind : MarkKind
   pub interface : ℤ
 
@@ -26,10 +26,10 @@ pub data Phrase : Type 0 where
   show_line : Word → Phrase
   break_line : Bool → Phrase
   append_line : ℤ → List ℤ → Phrase
-  track_line : ℤ → SaidTone → Phrase
-  jack_line : ℤ → SaidTone → Phrase
+  track_line : ℤ → PhraseTone → Phrase
+  jack_line : ℤ → PhraseTone → Phrase
   deviate_line : ℤ → ℤ → Phrase
-  microframes_line : ℤ → List SaidMark → Phrase
+  microframes_line : ℤ → List PhraseMark → Phrase
   detail_line : ℤ → Phrase
   report_line : Phrase
 
@@ -42,16 +42,16 @@ abbrev pub is_id : ℤ → Bool
 is_id z = is_within (pos 0) (pos 255) z
 
 -- a signed number of 32 bits
-abbrev pub is_signed : ℤ → Bool
-is_signed z = is_within (negsuc 2147483647) (pos 2147483647) z
+abbrev pub is_in_32_bits : ℤ → Bool
+is_in_32_bits z = is_within (negsuc 2147483647) (pos 2147483647) z
 
-abbrev pub is_tone_in_range : SaidTone → Bool
+abbrev pub is_tone_in_range : PhraseTone → Bool
 is_tone_in_range silent = true
-is_tone_in_range (ramp_tone start step) = is_signed start && is_signed step
+is_tone_in_range (ramp_tone start step) = is_in_32_bits start && is_in_32_bits step
 is_tone_in_range (noise_tone seed) = is_within (pos 0) (pos 4294967295) seed
 
 -- each interface of the marks is an id, and there are at most 24 of them
-abbrev pub are_marks_in_range : List SaidMark → Bool
+abbrev pub are_marks_in_range : List PhraseMark → Bool
 are_marks_in_range marks = list_all (λ mark. is_id mark.interface) marks && nat_le (length marks) 24
 
 -- each number of the line lies in its range, and there are at most 24 marks
@@ -61,10 +61,10 @@ is_in_range (bytes_line bytes) = true
 is_in_range go_line = true
 is_in_range (control_line setup sent) = true
 is_in_range (get_line name) = true
-is_in_range (set_line name value) = is_signed value
+is_in_range (set_line name value) = is_in_32_bits value
 is_in_range (show_line name) = true
 is_in_range (break_line after) = true
-is_in_range (append_line interface samples) = is_id interface && list_all is_signed samples
+is_in_range (append_line interface samples) = is_id interface && list_all is_in_32_bits samples
 is_in_range (track_line interface tone) = is_id interface && is_tone_in_range tone
 is_in_range (jack_line terminal tone) = is_id terminal && is_tone_in_range tone
 is_in_range (deviate_line domain ppm) = is_id domain && is_within (negsuc 99999) (pos 100000) ppm

@@ -75,19 +75,21 @@ pub record Stops (old new : Splitting) (bytes : List ℕ) (why : LineStop) (last
 
 -- what a call comes to, where no stop was kept: by all bytes that were taken and aren't in a line yet, by whether the
 -- source is at its end, and by whether its count of faults rose
-abbrev pub Comes : Splitting → Splitting → List ℕ → Option (List ℕ) → ℕ → ℕ → Result Next LineStop → Type 0
-Comes old new bytes left before after (Ok next.Line) =
+abbrev pub ComesOfNextLine : Splitting → Splitting → List ℕ → Option (List ℕ) → ℕ → ℕ → Result Next LineStop → Type 0
+ComesOfNextLine old new bytes left before after (Ok next.Line) =
     ((text rest : List ℕ) × (head_of old.spare bytes ≡ line text rest) × Goes old new text rest (length text + 1) false)
     ⊎ ((bytes ≢ []) × (head_of old.spare bytes ≡ unended bytes) × IsAtEnd left × Goes old new bytes [] (length bytes) true)
-Comes old new bytes left before after (Ok next.End) = (bytes ≡ []) × IsAtEnd left × (new ≡ old)
-Comes old new bytes left before after (Err stop.Long) = (head_of old.spare bytes ≡ long) × Stops old new bytes stop.Long (old.number + 1)
-Comes old new bytes left before after (Err stop.TooLong) = (head_of old.spare bytes ≡ past) × Stops old new bytes stop.TooLong old.number
-Comes old new bytes left before after (Err stop.Failed) =
+ComesOfNextLine old new bytes left before after (Ok next.End) = (bytes ≡ []) × IsAtEnd left × (new ≡ old)
+ComesOfNextLine old new bytes left before after (Err stop.Long) = (head_of old.spare bytes ≡ long)
+    × Stops old new bytes stop.Long (old.number + 1)
+ComesOfNextLine old new bytes left before after (Err stop.TooLong) = (head_of old.spare bytes ≡ past)
+    × Stops old new bytes stop.TooLong old.number
+ComesOfNextLine old new bytes left before after (Err stop.Failed) =
     (head_of old.spare bytes ≡ unended bytes) × Rose before after × Stops old new bytes stop.Failed old.number
 
 -- the most bytes that one call of the source is asked for
-abbrev pub piece_size : ℕ
-piece_size = 8192
+abbrev pub script_piece : ℕ
+script_piece = 8192
 
 -- Taking stopped as soon as a line stood whole: what was unread and all that was taken but for the last piece have none.
 pub record StopsAtLine (spare : ℕ) (unread taken : List ℕ) : Type 0 where
@@ -95,11 +97,11 @@ pub record StopsAtLine (spare : ℕ) (unread taken : List ℕ) : Type 0 where
   pub piece : List ℕ
   pub parts : taken ≡ front ++ piece
   pub open_yet : taken ≢ [] → head_of spare (unread ++ front) ≡ unended (unread ++ front)
-  pub short : length piece ≤ piece_size
+  pub short : length piece ≤ script_piece
 
 -- one call: the bytes that it took of the source, and what it comes to
 pub record Splits (old new : Splitting) (left left' : Option (List ℕ)) (before after : ℕ) (result : Result Next LineStop) : Type 0 where
   pub taken : List ℕ
   pub consumed : Consumes left left' taken
   pub prompt : StopsAtLine old.spare old.unread taken
-  pub comes : Comes old new (old.unread ++ taken) left' before after result
+  pub comes : ComesOfNextLine old new (old.unread ++ taken) left' before after result

@@ -2,7 +2,7 @@
 ghost use Rattle.std.specs.Prelude.{◌≡◌, ◌≤◌, length, Option, None, IfSome};
 ghost use Rattle.std.specs.Option.{option_copied};
 ghost use Rattle.uac_script.specs.Words.{hex_of};
-ghost use Rattle.uac_script.specs.LineReading.{setup_of};
+ghost use Rattle.uac_script.specs.LineReading.{setup_bytes_in};
 
 use hex::FromHex;
 
@@ -22,7 +22,7 @@ pub fn bytes<'a>(word: &[u8], room: &'a mut [u8; 2048]) -> Option<&'a [u8]>
 
 /// The eight setup bytes of a control transfer, where the word spells eight.
 pub fn setup(word: &[u8]) -> Option<[u8; 8]>
-    ensures { result ≡ setup_of word.now }
+    ensures { result ≡ setup_bytes_in word.now }
 {
     <[u8; 8]>::from_hex(word).ok()
 }

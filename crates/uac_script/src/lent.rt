@@ -62,7 +62,7 @@ impl LineRoom {
 impl<'a> LentLine<'a> {
     ghost use Rattle.std.specs.Prelude.{◌≡◌, ◌≤◌, length, IfOk, IfErr};
     ghost use Rattle.uac_script.specs.LineReading.{answer};
-    ghost use Rattle.uac_script.specs.Lent.{lent_phrase_result, LentKeeps};
+    ghost use Rattle.uac_script.specs.Lent.{lent_phrase_result, IsLentInRange};
 
     /// The line that a text of at most 4,096 bytes spells, as `Line::read` reads it. `room` holds its long parts, but for a name.
     ///
@@ -72,7 +72,7 @@ impl<'a> LentLine<'a> {
     pub fn read(text: &'a [u8], room: &'a mut LineRoom) -> Result<LentLine<'a>, u8>
         requires { length text.now ≤ 4096 }
         ensures answered { lent_phrase_result result ≡ answer text.now }
-        ensures keeps { IfOk result LentKeeps }
+        ensures keeps { IfOk result IsLentInRange }
         ensures no_other { IfErr result (λ rule. (2 ≤ rule) × (rule ≤ 4)) }
     {
         read_into(text, room)

@@ -2,8 +2,8 @@
 ghost use Rattle.std.specs.Prelude.{◌≡◌, ◌≢◌, ◌+◌, ◌-◌, ◌≤◌, ◌<◌, true, false, [], None, Some, Ok, Err, IfOk, OnErr, length, take, drop};
 ghost use Rattle.std.specs.Io.KnownBytes.{Keeps};
 ghost use Rattle.uac_edges.specs.Faults.{HasCause};
-ghost use Rattle.uac_script.specs.ScriptLines.{Splits, Goes, Stops, IsDecided, head_of, most_of_input, most_of_line, piece_size};
-ghost use Rattle.uac_script.specs.Looking.{Shows, line_end};
+ghost use Rattle.uac_script.specs.ScriptLines.{Splits, Goes, Stops, IsDecided, head_of, most_of_input, most_of_line, script_piece};
+ghost use Rattle.uac_script.specs.Looking.{ShowsFront, line_end};
 ghost use Rattle.uac_script.specs.Taking.{Grows};
 
 /// What stands first in the unread bytes.
@@ -146,7 +146,7 @@ impl Lines {
     fn first(&self, searched: usize) -> Front
         requires known { searched ≤ line_end self.now.unread }
         requires counted { searched ≤ self.now.spare }
-        ensures { Shows self.now.spare self.now.unread result }
+        ensures { ShowsFront self.now.spare self.now.unread result }
     {
         look(self.unread.as_bytes(), searched, self.spare)
     }
@@ -157,7 +157,7 @@ impl Lines {
         requires counted { length self.old.unread ≤ self.old.spare }
         ensures ok { IfOk result (λ n. Grows self.old.unread self.new.unread (S.left source.old) (S.left source.new)
             (self.old.spare + 1 - length self.old.unread) n) }
-        ensures piece { IfOk result (λ n. n ≤ piece_size) }
+        ensures piece { IfOk result (λ n. n ≤ script_piece) }
         ensures others { self.new ≡ record self.old { unread = self.new.unread } }
         ensures err { OnErr result (self.new ≡ self.old) }
         ensures kept { OnErr result (Keeps (S.left source.old) (S.left source.new)) }

@@ -6,12 +6,12 @@ ghost use Rattle.uac_script.specs.Words.{words_left, bytes_left};
 ghost use Rattle.uac_script.specs.ScriptNumerals.{is_number};
 ghost use Rattle.uac_script.specs.LineReading.{verdict_of, append_line_of, microframes_line_of, samples_of, kind_of, is_mark, mark_of};
 ghost use Rattle.uac_script.specs.Phrase.{is_id, are_marks_in_range};
-ghost use Rattle.uac_script.specs.Line.{said_mark};
+ghost use Rattle.uac_script.specs.Line.{phrase_mark};
 ghost use Rattle.uac_script.specs.Lent.{lent_phrase_result, Fits};
 
 use crate::lent::LentLine;
 use crate::line::{Mark, MarkKind};
-use crate::numbers::{id, is_number, signed, within};
+use crate::numbers::{id, is_number, signed_number, within};
 use crate::rows::{MISSPELT, OUT_OF_RANGE};
 use crate::words::Words;
 use arrayvec::ArrayVec;
@@ -37,7 +37,7 @@ fn samples<'a>(mut words: Words<'_>, samples: &'a mut ArrayVec<i32, 2048>) -> Op
 {
     samples.clear();
     while let Some(word) = words.take() {
-        samples.push(signed(word)?);
+        samples.push(signed_number(word)?);
     }
     Some(samples.as_slice())
 }
@@ -92,7 +92,7 @@ fn is_mark(word: &[u8]) -> bool
 fn mark(word: &[u8]) -> Option<Mark>
     requires { IsTrue (is_mark word.now) }
     ensures { MatchOption result (is_id (mark_of word.now).interface ≡ false)
-        (λ mark. (is_id (mark_of word.now).interface ≡ true) × (said_mark mark ≡ mark_of word.now)) }
+        (λ mark. (is_id (mark_of word.now).interface ≡ true) × (phrase_mark mark ≡ mark_of word.now)) }
 {
     let (letter, number) = word.split_first()?;
     let kind = kind(*letter)?;
@@ -117,7 +117,7 @@ fn marks<'a>(mut words: Words<'_>, marks: &'a mut ArrayVec<Mark, 24>) -> Option<
     requires { IsTrue (list_all is_mark (words_left words.rest)) }
     ensures marks { MatchOption result (are_marks_in_range (map mark_of (words_left words.entry.rest)) ≡ false)
         (λ marks. (are_marks_in_range (map mark_of (words_left words.entry.rest)) ≡ true)
-        × (map said_mark marks.now ≡ map mark_of (words_left words.entry.rest))) }
+        × (map phrase_mark marks.now ≡ map mark_of (words_left words.entry.rest))) }
     ensures fits { IfSome result (λ marks. length marks.now ≤ 24) }
 {
     marks.clear();

@@ -4,7 +4,7 @@ ghost use Rattle.std.specs.Option.{option_map};
 ghost use Rattle.std.specs.List.{list_all};
 ghost use Rattle.std.specs.Char.{is_ascii_digit};
 ghost use Rattle.uac_script.specs.ScriptNumerals.{is_natural, natural_of, number_of, is_number, value_of, far, within_far};
-ghost use Rattle.uac_script.specs.Phrase.{is_within, is_id, is_signed};
+ghost use Rattle.uac_script.specs.Phrase.{is_within, is_id, is_in_32_bits};
 
 /// Above the greatest number of every range: what a longer numeral spells is held here.
 const FAR: u64 = 1_000_000_000_000;
@@ -105,9 +105,9 @@ pub fn id(word: &[u8]) -> Option<u8>
 }
 
 /// The signed number of 32 bits that a numeral spells, where it is in range.
-pub fn signed(word: &[u8]) -> Option<i32>
-    ensures { MatchOption result (is_signed (value_of word.now) ≡ false)
-        (λ z. (is_signed (value_of word.now) ≡ true) × (z ≡ value_of word.now)) }
+pub fn signed_number(word: &[u8]) -> Option<i32>
+    ensures { MatchOption result (is_in_32_bits (value_of word.now) ≡ false)
+        (λ z. (is_in_32_bits (value_of word.now) ≡ true) × (z ≡ value_of word.now)) }
 {
     let number = within(word, i64::from(i32::MIN), i64::from(i32::MAX))?;
     Some(number as i32)

@@ -8,7 +8,7 @@ use crate::lent::{LentLine, LineRoom};
 use crate::line::Line;
 use crate::lists::{append, run};
 use crate::owned::owned_line;
-use crate::rows::{alone, break_at, control, detail, deviate, element, feed, jack, track};
+use crate::rows::{alone, break_line_at, control, detail, deviate, element, feed, jack, track};
 use crate::words::Words;
 
 /// Rule S2: no row has this first word.
@@ -35,7 +35,7 @@ fn row<'a>(letter: u8, words: Words<'a>, room: &'a mut LineRoom) -> Result<LentL
         b'g' => alone(LentLine::Go, words),
         b'c' => control(words, &mut room.bytes),
         b'h' => element(words),
-        b'b' => break_at(words),
+        b'b' => break_line_at(words),
         b'a' => append(words, &mut room.samples),
         b't' => track(words),
         b'j' => jack(words),

@@ -5,7 +5,8 @@ ghost use Rattle.uac_script.specs.Words.{words_left, bytes_left};
 ghost use Rattle.uac_script.specs.ScriptNumerals.{is_number};
 ghost use Rattle.uac_script.specs.LineReading.{tone_result, signal_result, verdict_of, tone_verdict, signal_verdict, name_in, only_of};
 ghost use Rattle.uac_script.specs.LineReading.{then_of};
-ghost use Rattle.uac_script.specs.LineReading.{when_empty, bytes_line_of, control_line_of, element_of, break_line_of, tone_read, signal_of};
+ghost use Rattle.uac_script.specs.LineReading.{when_empty, bytes_line_of, control_line_of, element_line_of, break_line_of, tone_read};
+ghost use Rattle.uac_script.specs.LineReading.{signal_of};
 ghost use Rattle.uac_script.specs.LineReading.{track_line_of};
 ghost use Rattle.uac_script.specs.LineReading.{jack_line_of, deviate_line_of, detail_line_of, set_line_of, pair_of, sent_of, ramp_of};
 ghost use Rattle.uac_script.specs.LineReading.{from_number};
@@ -14,7 +15,7 @@ ghost use Rattle.uac_script.specs.Lent.{lent_phrase, lent_phrase_result, Fits};
 
 use crate::hex_bytes::{bytes, setup};
 use crate::lent::LentLine;
-use crate::numbers::{id, is_number, signed, within};
+use crate::numbers::{id, is_number, signed_number, within};
 use crate::words::Words;
 use uac_pcm::Tone;
 
@@ -120,7 +121,7 @@ fn set(words: Words<'_>) -> Result<LentLine<'_>, u8>
     let Some(name) = name(word) else {
         return Err(MISSPELT);
     };
-    match signed(numeral) {
+    match signed_number(numeral) {
         Some(value) => Ok(LentLine::Set(name, value)),
         None => Err(OUT_OF_RANGE),
     }
@@ -129,7 +130,7 @@ fn set(words: Words<'_>) -> Result<LentLine<'_>, u8>
 /// Reads, sets or shows an element.
 pub fn element(mut words: Words<'_>) -> Result<LentLine<'_>, u8>
     requires { bytes_left words.rest ≤ 4097 }
-    ensures says { lent_phrase_result result ≡ verdict_of (element_of (words_left words.entry.rest)) }
+    ensures says { lent_phrase_result result ≡ verdict_of (element_line_of (words_left words.entry.rest)) }
     ensures fits { IfOk result Fits }
 {
     let Some(verb) = words.take() else {
@@ -150,7 +151,7 @@ pub fn element(mut words: Words<'_>) -> Result<LentLine<'_>, u8>
 }
 
 /// The next transfer breaks.
-pub fn break_at<'a>(words: Words<'_>) -> Result<LentLine<'a>, u8>
+pub fn break_line_at<'a>(words: Words<'_>) -> Result<LentLine<'a>, u8>
     ensures says { lent_phrase_result result ≡ verdict_of (break_line_of (words_left words.entry.rest)) }
     ensures fits { IfOk result Fits }
 {
@@ -205,10 +206,10 @@ fn ramp(words: Words<'_>) -> Result<Tone, u8>
     if !is_number(start) || !is_number(step) {
         return Err(MISSPELT);
     }
-    let Some(start) = signed(start) else {
+    let Some(start) = signed_number(start) else {
         return Err(OUT_OF_RANGE);
     };
-    let Some(step) = signed(step) else {
+    let Some(step) = signed_number(step) else {
         return Err(OUT_OF_RANGE);
     };
     Ok(Tone::Ramp { start, step })

@@ -12,7 +12,7 @@ use Rattle.uac_describe.specs.declared.status.Status.TheVariants as statuses
 use Rattle.uac_describe.specs.Outcome.{End, at_end, read_failed, stopped}
 use Rattle.uac_scripts.specs.ScriptTranscript.{Ending, after_step, with_text_first}
 use Rattle.uac_scripts.specs.Computed.{goes, transcript}
-use Rattle.uac_describe.specs.Closing.{HasEnded, Rests}
+use Rattle.uac_describe.specs.Closing.{HasEnded, HasNoFault}
 use Rattle.uac_describe.proofs.Completing.{front_of}
 use Rattle.uac_scripts.proofs.Going.{goes_at, line_size, waits_for_more}
 
@@ -79,7 +79,7 @@ transcript_stays shown taken more end other = elim (transcript_told shown taken)
 
 -- what the lines that were taken come to is what all lines come to, where no read and no write failed
 pub done_once : (shown : List Reading) (bytes taken : List ℕ) (left left' : Option (List ℕ)) (reads reads' : ℕ) (end : End)
-    → left ≡ Some bytes → Consumes left left' taken → Rests reads reads' → HasEnded end left' reads reads'
+    → left ≡ Some bytes → Consumes left left' taken → HasNoFault reads reads' → HasEnded end left' reads reads'
     → (transcript shown taken end).outcome.status ≢ statuses.WriteFault → transcript shown bytes at_end ≡ transcript shown taken end
 done_once shown bytes taken left left' reads reads' at_end is consumed rests ended other =
     let front = front_of left left' bytes taken is consumed in ap (λ (bs : List ℕ). transcript shown bs at_end) (sym (front.whole ended.0))

@@ -19,7 +19,7 @@ use Rattle.uac_bus.specs.BusWorld.{BusWorld, Step, done, start}
 use Rattle.uac_bus.specs.After.{After, after, if_refused, said_step, step_added, with_one_more}
 use Rattle.uac_bus.proofs.AfterLemmas.{after_one_more}
 use Rattle.uac_edges.specs.TextLines.{with_newlines}
-use Rattle.uac_scripts.specs.Script.{IsLine}
+use Rattle.uac_scripts.specs.Script.{IsScriptLine}
 
 -- ---- a line that was cut out of bytes
 
@@ -38,10 +38,10 @@ around_newline bytes some =
     (eqb-true (get_or bytes (line_end bytes) 0) 10 (passes_at_first (λ b. b == 10) bytes 0 some))
 
 -- a line in front of bytes, its newline, and the rest are all of them
-pub front_cut : (spare : ℕ) (bytes text rest : List ℕ) → head_of spare bytes ≡ line text rest → IsLine text × (bytes ≡ text ++ 10 ∷ rest)
+pub front_cut : (spare : ℕ) (bytes text rest : List ℕ) → head_of spare bytes ≡ line text rest → IsScriptLine text × (bytes ≡ text ++ 10 ∷ rest)
 front_cut spare bytes text rest h = go (cases_of spare bytes)
   where
-    go : Cases spare bytes → IsLine text × (bytes ≡ text ++ 10 ∷ rest)
+    go : Cases spare bytes → IsScriptLine text × (bytes ≡ text ++ 10 ∷ rest)
     go (is_long many e) = absurd (cc)
     go (is_past few none more e) = absurd (cc)
     go (is_unended few none within e) = absurd (cc)
@@ -53,19 +53,19 @@ front_cut spare bytes text rest h = go (cases_of spare bytes)
         let size-is : line_end bytes ≡ size = omega (arith, line_end_in spare bytes, length-take spare bytes) in
         let there : line_end bytes < length bytes = omega (arith, length-take spare bytes) in
         let parts : bytes ≡ take size bytes ++ 10 ∷ drop (size + 1) bytes = subst (λ (n : ℕ). bytes ≡ take n bytes ++ 10 ∷ drop (n + 1) bytes) size-is (around_newline bytes there) in
-        let own : IsLine (take size bytes) = record {
+        let own : IsScriptLine (take size bytes) = record {
           short = (let all : length (take size bytes) ≤ size = omega (arith, length-take size bytes) in omega arith);
           whole = no_newline size bytes (omega arith);
         } in (
-          subst IsLine (sym text-is) own,
+          subst IsScriptLine (sym text-is) own,
           parts ∙ ap (λ (t : List ℕ). t ++ 10 ∷ drop (size + 1) bytes) (sym text-is) ∙ ap (λ (r : List ℕ). text ++ 10 ∷ r) (sym rest-is),
         )
 
 -- bytes that no newline ends are a line
-pub rest_cut : (spare : ℕ) (bytes : List ℕ) → head_of spare bytes ≡ unended bytes → IsLine bytes
+pub rest_cut : (spare : ℕ) (bytes : List ℕ) → head_of spare bytes ≡ unended bytes → IsScriptLine bytes
 rest_cut spare bytes h = go (cases_of spare bytes)
   where
-    go : Cases spare bytes → IsLine bytes
+    go : Cases spare bytes → IsScriptLine bytes
     go (is_long many e) = absurd (cc)
     go (is_past few none more e) = absurd (cc)
     go (is_line few some e) = absurd (cc)
@@ -83,7 +83,7 @@ rest_cut spare bytes h = go (cases_of spare bytes)
 -- come to, and none was refused.
 pub record HasDone (shown : List Reading) (taken text unread : List ℕ) (w : BusWorld) : Type 0 where
   pub texts : List (List ℕ)
-  pub lines : AllByRecursion IsLine texts
+  pub lines : AllByRecursion IsScriptLine texts
   pub cut : taken ≡ with_newlines texts ++ unread
   pub printed : text ≡ text_of (after (map answer texts) (start shown)).lines
   pub reached : w ≡ (after (map answer texts) (start shown)).world
@@ -117,7 +117,7 @@ done_following : (said : Result Phrase ℕ) (a : After) (next : BusWorld) (more 
 done_following said a next more none is =
     ap (λ (o : Option BusFault). if_refused o a (step_added (said_step said a.world) a)) none ∙ ap (λ (s : Step). step_added s a) is
 
-pub one_more_done : (shown : List Reading) (taken text told rest : List ℕ) (w next : BusWorld) (more : List Said) → HasDone shown taken text (told ++ 10 ∷ rest) w → IsLine told
+pub one_more_done : (shown : List Reading) (taken text told rest : List ℕ) (w next : BusWorld) (more : List Said) → HasDone shown taken text (told ++ 10 ∷ rest) w → IsScriptLine told
     → said_step (answer told) w ≡ done next more → HasDone shown taken (text ++ text_of more) rest next
 one_more_done shown taken text told rest w next more d is_told is =
     let a : After = after (map answer d.texts) (start shown) in
@@ -128,7 +128,7 @@ one_more_done shown taken text told rest w next more d is_told is =
     ∙ done_following (answer told) a next more d.accepted (ap (said_step (answer told)) (sym d.reached) ∙ is) in
     record {
       texts = d.texts ++ told ∷ [];
-      lines = All-push IsLine d.texts told d.lines is_told;
+      lines = All-push IsScriptLine d.texts told d.lines is_told;
       cut = d.cut ∙ sym (with_one d.texts told rest);
       printed = ap (λ (t : List ℕ). t ++ text_of more) d.printed ∙ sym (text_of-append a.lines more) ∙ sym (ap (λ (x : After). text_of x.lines) same);
       reached = sym (ap (λ (x : After). x.world) same);

@@ -23,7 +23,7 @@ use Rattle.uac_transcript.specs.Transcript.{Said}
 use Rattle.uac_transcript.specs.Printing.{text_of}
 use Rattle.uac_bus.specs.declared.bus.BusStage.{BusStage}
 use Rattle.uac_bus.specs.declared.bus.BusStage.TheVariants as stages
-use Rattle.uac_bus.specs.BusKept.{BusFields, BusStands, StageStands, Reaches, IsCut, Prevents}
+use Rattle.uac_bus.specs.BusKept.{BusFields, BusStands, BusStageStands, Reaches, IsWriteCut, Prevents}
 use Rattle.uac_scripts.specs.declared.jobs.SourceJob.TheVariants.{Run}
 use Rattle.uac_describe.specs.declared.status.Status.{Status}
 use Rattle.uac_describe.specs.declared.status.Status.TheVariants as statuses
@@ -31,10 +31,10 @@ use Rattle.uac_describe.specs.Outcome.{End, at_end, read_failed, stopped, Outcom
 use Rattle.uac_describe.specs.Closing.{HasEnded, Closes}
 use Rattle.uac_scripts.specs.ScriptRun.{IsPrompt, IsRun, StopsAtRefusal}
 use Rattle.uac_scripts.specs.Running.{IsSilent, Leaves, stop_outcome}
-use Rattle.uac_scripts.specs.Script.{IsLine, IsWanted, EndsLine, wants}
-use Rattle.uac_scripts.specs.Lived.{IsLived}
-use Rattle.uac_scripts.proofs.LivedLemmas.{transcript_is_lived, wanted_is_lived}
-use Rattle.uac_scripts.specs.ScriptTranscript.{Ending, misread, too_long, last_line, ends, with_text_first, after_step, closed_by, ending_at, no_more_text}
+use Rattle.uac_scripts.specs.Script.{IsScriptLine, IsWanted, EndsLine, wants}
+use Rattle.uac_scripts.specs.DoneScript.{IsDoneScript}
+use Rattle.uac_scripts.proofs.DoneScriptLemmas.{transcript_is_lived, wanted_is_lived}
+use Rattle.uac_scripts.specs.ScriptTranscript.{Ending, misread_outcome, too_long, last_line, ends, with_text_first, after_step, closed_by, ending_at, no_more_text}
 use Rattle.uac_scripts.specs.Computed.{goes, transcript}
 use Rattle.uac_describe.proofs.Answering.{told_status}
 use Rattle.uac_scripts.proofs.Agreeing.{all_say, is_transcript}
@@ -99,7 +99,7 @@ far_at_first shown left written bus lines stands is =
 BusStands-meters : (bus : BusFields) (shown : List Reading) (w : BusWorld) → BusStands bus shown w → shown ≡ meters_in w
 BusStands-meters bus shown w stands = shows bus.stage w stands.stage
   where
-    shows : (stage : BusStage) (w : BusWorld) → StageStands stage shown w → shown ≡ meters_in w
+    shows : (stage : BusStage) (w : BusWorld) → BusStageStands stage shown w → shown ≡ meters_in w
     shows (stages.Describing reader) (describing bytes meters) s = s.2
     shows (stages.Describing reader) (running r) s = absurd s
     shows (stages.Running p) (describing bytes meters) s = absurd s
@@ -142,7 +142,7 @@ pub record HasLine (shown : List Reading) (text : List ℕ) (w : BusWorld) (left
   pub law : transcript shown taken end ≡ with_text_first text (after_step (said_step (answer lines.text) w) lines.number w go)
   pub rest : List ℕ
   pub cut : HasDone shown taken text (lines.text ++ rest) w
-  pub fits : IsLine lines.text
+  pub fits : IsScriptLine lines.text
   pub whole : EndsLine rest
   pub newline : lines.ended ≡ false → rest ≡ 10 ∷ lines.unread
   pub on : (next : BusWorld) (more : List Said) → said_step (answer lines.text) w ≡ done next more → ToCome shown taken (text ++ text_of more) lines left' next lines.ended
@@ -196,7 +196,7 @@ has_front shown taken text got told rest old new w left left' reads reads' law s
           ∙ ap (λ (n : ℕ). with_text_first text (after_step (said_step (answer new.text) w) n w go)) number-is;
       rest = 10 ∷ rest;
       cut = subst (λ (xs : List ℕ). HasDone shown (taken ++ got) text xs w) (parts.1 ∙ ap (λ (t : List ℕ). t ++ 10 ∷ rest) (sym g.text)) (done_more shown taken text old.unread w got isdone);
-      fits = subst IsLine (sym g.text) parts.0;
+      fits = subst IsScriptLine (sym g.text) parts.0;
       whole = inr (rest, refl);
       newline = (λ _. ap (λ (xs : List ℕ). 10 ∷ xs) (sym g.unread));
       on = (λ next more is. subst (λ (b : Bool). ToCome shown (taken ++ got) (text ++ text_of more) new left' next b) (sym g.ended)
@@ -236,7 +236,7 @@ has_rest shown taken text got old new w left left' reads reads' law size consume
           ∙ ap (λ (n : ℕ). with_text_first text (after_step (said_step (answer new.text) w) n w go)) number-is;
       rest = [];
       cut = subst (λ (xs : List ℕ). HasDone shown (taken ++ got) text xs w) (sym (append-nil (old.unread ++ got)) ∙ ap (λ (t : List ℕ). t ++ []) (sym g.text)) (done_more shown taken text old.unread w got isdone);
-      fits = subst IsLine (sym g.text) (rest_cut old.spare (old.unread ++ got) head);
+      fits = subst IsScriptLine (sym g.text) (rest_cut old.spare (old.unread ++ got) head);
       whole = inl refl;
       newline = (λ e. let last : true ≡ false = sym g.ended ∙ e in absurd (cc));
       on = (λ next more is. subst (λ (b : Bool). ToCome shown (taken ++ got) (text ++ text_of more) new left' next b) (sym g.ended) (
@@ -324,7 +324,7 @@ closes_after o text old mid new before between after status front still (inr cut
     inr (cut.0, subst (λ (n : ℕ). Rose n after) still cut.1, AppendsFront-after old mid new text o.text front cut.2)
 
 -- memory may be wanted at the line after those that were done
-is_wanted : (shown : List Reading) (taken text told rest : List ℕ) (w : BusWorld) → HasDone shown taken text (told ++ rest) w → IsLine told → EndsLine rest → wants (answer told) w ≡ true
+is_wanted : (shown : List Reading) (taken text told rest : List ℕ) (w : BusWorld) → HasDone shown taken text (told ++ rest) w → IsScriptLine told → EndsLine rest → wants (answer told) w ≡ true
     → IsWanted shown taken (with_text_first text (ends no_memory w))
 is_wanted shown taken text told rest w isdone is_line whole takes = record {
   texts = isdone.texts;
@@ -358,7 +358,7 @@ module _ (shown shown' : List Reading) (left left' : Option (List ℕ)) (reads r
     ended = ended;
     prompt = prompt;
     meant = inl (is_transcript shown taken end (with_text_first text ending) (sym law));
-    lived = subst (IsLived shown taken) law (transcript_is_lived shown taken end);
+    lived = subst (IsDoneScript shown taken) law (transcript_is_lived shown taken end);
     closed = closes_after ending.outcome text written mid written' writes writes' writes'' status front still closed;
     heard = heard;
     unheard = (λ other. absurd (other refl));
@@ -366,7 +366,7 @@ module _ (shown shown' : List Reading) (left left' : Option (List ℕ)) (reads r
 
   -- memory was wanted at a line, after others that were done
   pub memory_run : (taken text told rest : List ℕ) (w : BusWorld) (end : End) → Consumes left left' taken → HasEnded end left' reads reads' → IsPrompt (Some Run) shown taken
-      → HasDone shown taken text (told ++ rest) w → IsLine told → EndsLine rest → wants (answer told) w ≡ true
+      → HasDone shown taken text (told ++ rest) w → IsScriptLine told → EndsLine rest → wants (answer told) w ≡ true
       → Appends written mid text → writes' ≡ writes → Closes no_memory mid written' writes' writes'' status → shown' ≡ meters_in w
       → IsRun (Some Run) shown shown' left left' reads reads' written written' writes writes'' status
   memory_run taken text told rest w end consumed ended prompt isdone is_line whole takes front still closed heard = record {
@@ -385,7 +385,7 @@ module _ (shown shown' : List Reading) (left left' : Option (List ℕ)) (reads r
 
 -- ---- a line that wasn't done
 
-cut_parts : (s : Step) (written written' : Option (List ℕ)) (text : List ℕ) (number : ℕ) (w : BusWorld) (go : BusWorld → Ending) → IsCut s written written'
+cut_parts : (s : Step) (written written' : Option (List ℕ)) (text : List ℕ) (number : ℕ) (w : BusWorld) (go : BusWorld → Ending) → IsWriteCut s written written'
     → AppendsFront written written' (after_step s number w go).outcome.text
 cut_parts (done next more) written written' text number w go cut = AppendsFront-longer written written' (text_of more) (go next).outcome.text cut
 cut_parts (refused fault) written written' text number w go cut = absurd cut
@@ -462,12 +462,12 @@ module _ (shown shown' : List Reading) (left mid left' : Option (List ℕ)) (wri
       → Closes (stop_outcome why new.number) written' written'' before last status → IsRun (Some Run) shown shown' left left' first reads' written written'' writes last status
   stopped_by stops.Long open_yet splits calm closed =
       let halt = splits.comes.1 in
-      ends_run shown shown' left left' first reads' written written' written'' writes before last status (far.taken ++ splits.taken) far.text stopped (ends (misread 1 new.number) far.world)
+      ends_run shown shown' left left' first reads' written written' written'' writes before last status (far.taken ++ splits.taken) far.text stopped (ends (misread_outcome 1 new.number) far.world)
       (Consumes-Consumes left mid left' far.taken splits.taken far.consumed splits.consumed) (calm (λ e. cc) ∙ early)
       (stopped_prompt open_yet splits.taken splits.prompt halt.unread halt.spare)
       (goes_on shown shown' left mid left' written written' bus old new reads reads' far open_yet splits.taken stopped
       ∙ ap (with_text_first far.text) (goes_at long old.spare (old.unread ++ splits.taken) stopped (old.number + 1) far.world splits.comes.0
-      ∙ ap (λ (n : ℕ). ends (misread 1 n) far.world) (sym halt.number)))
+      ∙ ap (λ (n : ℕ). ends (misread_outcome 1 n) far.world) (sym halt.number)))
       far.appended first-writes closed (λ _. BusStands-meters bus shown' far.world far.stands)
   stopped_by stops.TooLong open_yet splits calm closed =
       let halt = splits.comes.1 in

@@ -14,18 +14,18 @@ use Rattle.uac_bus.specs.declared.fault.BusFault.TheVariants as faults
 use Rattle.uac_bus.specs.BusWorld.{BusWorld, Step, done, refused, step}
 use Rattle.uac_bus.specs.After.{said_step}
 use Rattle.uac_bus.specs.BusKept.{Answers, BusFields, BusStands, may_want}
-use Rattle.uac_scripts.specs.Running.{Does, Leaves}
+use Rattle.uac_scripts.specs.Running.{DoesScriptLine, Leaves}
 use Rattle.uac_scripts.specs.Script.{wants}
 
 -- a line was done, and then what it printed was to be handed on
 does_handed_on : (s : Step) (memory : Bool) (bus : BusFields) (shown shown' : List Reading) (w m w' : Option (List ℕ)) (f g f' : ℕ)
-    (u : Unit {0}) (result : Result (Unit {0}) BusFault) → Does s memory bus shown shown' w m f g (Ok u) → Keeps m w' → OnOk result (f' ≡ g)
-    → IfErr result (λ fault. fault ≡ faults.WriteFault) → OnErr result (Rose g f') → Does s memory bus shown shown' w w' f f' result
+    (u : Unit {0}) (result : Result (Unit {0}) BusFault) → DoesScriptLine s memory bus shown shown' w m f g (Ok u) → Keeps m w' → OnOk result (f' ≡ g)
+    → IfErr result (λ fault. fault ≡ faults.WriteFault) → OnErr result (Rose g f') → DoesScriptLine s memory bus shown shown' w w' f f' result
 does_handed_on (refused fault) memory bus shown shown' w m w' f g f' u result does kept still is rose = absurd does.0
 does_handed_on (done next lines) memory bus shown shown' w m w' f g f' u (Ok v) does kept still is rose =
     ((does.0.0, Appends-kept w m w' (text_of lines) does.0.1 kept), tt, still ∙ does.2)
 does_handed_on (done next lines) memory bus shown shown' w m w' f g f' u (Err fault) does kept still is rose =
-    subst (λ (e : BusFault). Does (done next lines) memory bus shown shown' w w' f f' (Err e)) (sym is)
+    subst (λ (e : BusFault). DoesScriptLine (done next lines) memory bus shown shown' w w' f f' (Err e)) (sym is)
     (AppendsFront-whole w w' (text_of lines) (Appends-kept w m w' (text_of lines) does.0.1 kept), subst (λ (n : ℕ). Rose n f') does.2 rose, tt)
 
 -- a line that was read was done, and then what it printed was to be handed on
@@ -33,9 +33,9 @@ pub line_handed_on : (said : Result LentLine ℕ) (line : LentLine) (world : Bus
     (w m w' : Option (List ℕ)) (f g f' : ℕ) (u : Unit {0}) (result : Result (Unit {0}) BusFault) → said ≡ Ok line
     → Answers (lent_phrase line) world bus shown' w m (Ok u) → g ≡ f → Keeps m w'
     → OnOk result (f' ≡ g) → IfErr result (λ fault. fault ≡ faults.WriteFault) → OnErr result (Rose g f')
-    → Does (said_step (lent_phrase_result said) world) (wants (lent_phrase_result said) world) bus shown shown' w w' f f' result
+    → DoesScriptLine (said_step (lent_phrase_result said) world) (wants (lent_phrase_result said) world) bus shown shown' w w' f f' result
 line_handed_on said line world bus shown shown' w m w' f g f' u result is answers same kept still only rose =
-    subst (λ (s : Result LentLine ℕ). Does (said_step (lent_phrase_result s) world) (wants (lent_phrase_result s) world) bus shown shown' w w' f f' result)
+    subst (λ (s : Result LentLine ℕ). DoesScriptLine (said_step (lent_phrase_result s) world) (wants (lent_phrase_result s) world) bus shown shown' w w' f f' result)
     (sym is)
     (does_handed_on (step (lent_phrase line) world) (may_want (lent_phrase line) world) bus shown shown' w m w' f g f' u result
     (answers, tt, same) kept still only rose)
@@ -63,9 +63,9 @@ pub line_failed : (said : Result LentLine ℕ) (line : LentLine) (world : BusWor
     → Answers (lent_phrase line) world bus' shown' w w' (Err fault)
     → (fault ≢ faults.WriteFault → shown' ≡ shown) → (fault ≢ faults.WriteFault → (w' ≡ w) × (f' ≡ f))
     → (fault ≡ faults.WriteFault → (bus.fault ≡ Some faults.WriteFault) ⊎ Rose f f')
-    → Does (said_step (lent_phrase_result said) world) (wants (lent_phrase_result said) world) bus' shown shown' w w' f f' (Err fault)
+    → DoesScriptLine (said_step (lent_phrase_result said) world) (wants (lent_phrase_result said) world) bus' shown shown' w w' f f' (Err fault)
 line_failed said line world bus bus' shown shown' w w' f f' fault is stands answers unheard unwritten cause =
     subst
-    (λ (s : Result LentLine ℕ). Does (said_step (lent_phrase_result s) world) (wants (lent_phrase_result s) world) bus' shown shown' w w' f f' (Err fault))
+    (λ (s : Result LentLine ℕ). DoesScriptLine (said_step (lent_phrase_result s) world) (wants (lent_phrase_result s) world) bus' shown shown' w w' f f' (Err fault))
     (sym is)
     (answers, line_left fault bus.fault shown shown' w w' f f' stands.going unheard unwritten cause, tt)

@@ -8,7 +8,7 @@ use Rattle.uac_script.specs.LineReading.{answer}
 use Rattle.uac_bus.specs.BusWorld.{BusWorld, describing, running, step}
 use Rattle.uac_bus.specs.After.{said_step}
 use Rattle.uac_bus.specs.BusKept.{BusFields, BusStands}
-use Rattle.uac_scripts.specs.Running.{Does}
+use Rattle.uac_scripts.specs.Running.{DoesScriptLine}
 use Rattle.uac_scripts.specs.Script.{wants}
 
 said_idle : (text : List ℕ) → is_idle text ≡ true → answer text ≡ Ok nothing_line
@@ -16,13 +16,13 @@ unfolding answer
 said_idle text e = rw e refl
 
 does_idle : (w : BusWorld) (bus : BusFields) (shown : List Reading) (written : Option (List ℕ)) (writes : ℕ) → BusStands bus shown w
-    → Does (said_step (Ok nothing_line) w) (wants (Ok nothing_line) w) bus shown shown written written writes writes (Ok tt)
+    → DoesScriptLine (said_step (Ok nothing_line) w) (wants (Ok nothing_line) w) bus shown shown written written writes writes (Ok tt)
 unfolding step
 does_idle (describing bytes heard) bus shown written writes s = ((s, Appends-nil written), tt, refl)
 does_idle (running r) bus shown written writes s = ((s, Appends-nil written), tt, refl)
 
 pub idle_done : (text : List ℕ) (w : BusWorld) (bus : BusFields) (shown : List Reading) (written : Option (List ℕ)) (writes : ℕ) → is_idle text ≡ true → BusStands bus shown w
-    → Does (said_step (answer text) w) (wants (answer text) w) bus shown shown written written writes writes (Ok tt)
+    → DoesScriptLine (said_step (answer text) w) (wants (answer text) w) bus shown shown written written writes writes (Ok tt)
 idle_done text w bus shown written writes e s =
-    subst (λ (said : Result Phrase ℕ). Does (said_step said w) (wants said w) bus shown shown written written writes writes (Ok tt)) (sym (said_idle text e))
+    subst (λ (said : Result Phrase ℕ). DoesScriptLine (said_step said w) (wants said w) bus shown shown written written writes writes (Ok tt)) (sym (said_idle text e))
     (does_idle w bus shown written writes s)

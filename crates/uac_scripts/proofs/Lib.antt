@@ -5,5 +5,5 @@ pub mod Following
 pub mod Going
 pub mod HandingOn
 pub mod Idle
-pub mod LivedLemmas
+pub mod DoneScriptLemmas
 pub mod ScriptLemmas

@@ -20,7 +20,7 @@ use Rattle.uac_bus.specs.BusWorld.{BusWorld, Step, done, refused, start}
 use Rattle.uac_bus.specs.After.{After, after, and_then, said_step}
 use Rattle.uac_describe.specs.Outcome.{End}
 use Rattle.uac_edges.specs.TextLines.{with_newlines}
-use Rattle.uac_scripts.specs.Script.{IsLine, go_unless_refused, come_to}
+use Rattle.uac_scripts.specs.Script.{IsScriptLine, go_unless_refused, come_to}
 use Rattle.uac_scripts.specs.ScriptTranscript.{Ending, after_step, with_text_first, ends, last_line}
 use Rattle.uac_scripts.specs.Computed.{goes, transcript}
 use Rattle.uac_scripts.proofs.Going.{with_text_first-with_text_first, goes_at}
@@ -43,7 +43,7 @@ end_of_line text rest whole =
     (λ k below. ne_eqb (get_or (text ++ 10 ∷ rest) k 0) 10 (λ e. whole k 0 below (sym (get_front text (10 ∷ rest) k 0 below) ∙ e)))
     (λ below. ap (λ (b : ℕ). b == 10) (get_seam text rest 10 0))
 
-line_first : (spare : ℕ) (text rest : List ℕ) → IsLine text → length text + 1 ≤ spare → head_of spare (text ++ 10 ∷ rest) ≡ line text rest
+line_first : (spare : ℕ) (text rest : List ℕ) → IsScriptLine text → length text + 1 ≤ spare → head_of spare (text ++ 10 ∷ rest) ≡ line text rest
 line_first spare text rest is fits =
     let bytes : List ℕ = text ++ 10 ∷ rest in
     let long : length bytes ≡ length text + suc (length rest) = length-append text (10 ∷ rest) in
@@ -79,7 +79,7 @@ come_to-step (refused fault) w number others go on same =
 come_to-same : (a : After) (number : ℕ) (go go' : BusWorld → Ending) → ((v : BusWorld) → go v ≡ go' v) → come_to a number go ≡ come_to a number go'
 come_to-same a number go go' same = ap (with_text_first (text_of a.lines)) (go_unless_refused_same a.refusal (number + a.count) a.world go go' same)
 
-pub goes_lines : (texts : List (List ℕ)) (spare : ℕ) (rest : List ℕ) (end : End) (number : ℕ) (w : BusWorld) → AllByRecursion IsLine texts → length (with_newlines texts) ≤ spare
+pub goes_lines : (texts : List (List ℕ)) (spare : ℕ) (rest : List ℕ) (end : End) (number : ℕ) (w : BusWorld) → AllByRecursion IsScriptLine texts → length (with_newlines texts) ≤ spare
     → goes spare (with_newlines texts ++ rest) end number w
     ≡ come_to (after (map answer texts) w) number (λ v. goes (spare - length (with_newlines texts)) rest end (length texts + number) v)
 unfolding after
@@ -107,7 +107,7 @@ goes_lines (text ∷ texts) spare rest end number w are fits =
     (λ v. ap (λ (n : ℕ). goes n rest end (length texts + (number + 1)) v) left
     ∙ ap (λ (n : ℕ). goes (spare - length (with_newlines (text ∷ texts))) rest end n v) last))
 
-pub script_lines : (shown : List Reading) (texts : List (List ℕ)) (rest : List ℕ) (end : End) → AllByRecursion IsLine texts → length (with_newlines texts) ≤ most_of_input
+pub script_lines : (shown : List Reading) (texts : List (List ℕ)) (rest : List ℕ) (end : End) → AllByRecursion IsScriptLine texts → length (with_newlines texts) ≤ most_of_input
     → transcript shown (with_newlines texts ++ rest) end
     ≡ come_to (after (map answer texts) (start shown)) 1 (λ w. goes (most_of_input - length (with_newlines texts)) rest end (length texts + 1) w)
 unfolding transcript
@@ -115,7 +115,7 @@ script_lines shown texts rest end are fits = goes_lines texts most_of_input rest
 
 -- the same by what each line says
 pub script_said : (shown : List Reading) (texts : List (List ℕ)) (saids : List (Result Phrase ℕ)) (rest : List ℕ) (end : End) → AllZip Says texts saids
-    → AllByRecursion IsLine texts → length (with_newlines texts) ≤ most_of_input
+    → AllByRecursion IsScriptLine texts → length (with_newlines texts) ≤ most_of_input
     → transcript shown (with_newlines texts ++ rest) end
     ≡ come_to (after saids (start shown)) 1 (λ w. goes (most_of_input - length (with_newlines texts)) rest end (length texts + 1) w)
 script_said shown texts saids rest end say are fits =

@@ -3,7 +3,7 @@
 pub mod ScriptRun
 pub mod ScriptTranscript
 pub mod Script
-pub mod Lived
+pub mod DoneScript
 -- What the laws say besides.
 pub mod Computed
 -- What the contracts below them cite: steps of the code, no part of what is promised.

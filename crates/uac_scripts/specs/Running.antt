@@ -10,7 +10,7 @@ use Rattle.uac_bus.specs.BusWorld.{Step}
 use Rattle.uac_bus.specs.BusKept.{BusFields}
 use Rattle.uac_bus.specs.BusKept as kept
 use Rattle.uac_describe.specs.Outcome.{Outcome, read_fault}
-use Rattle.uac_scripts.specs.ScriptTranscript.{misread, too_long}
+use Rattle.uac_scripts.specs.ScriptTranscript.{misread_outcome, too_long}
 
 -- nothing was printed, no write met a fault, and the meters heard nothing
 pub record IsSilent (shown shown' : List Reading) (written written' : Option (List ℕ)) (writes writes' : ℕ) : Type 0 where
@@ -25,15 +25,15 @@ Leaves shown shown' written written' writes writes' _ = IsSilent shown shown' wr
 
 -- what a line that makes this step comes to: it is done, no write met a fault, and the bus and the meters stand for the next world; or it
 -- fails. Memory may be wanted only where this says so
-abbrev pub Does : Step → Bool → BusFields → List Reading → List Reading → Option (List ℕ) → Option (List ℕ) → ℕ → ℕ
+abbrev pub DoesScriptLine : Step → Bool → BusFields → List Reading → List Reading → Option (List ℕ) → Option (List ℕ) → ℕ → ℕ
     → Result (Unit {0}) BusFault → Type 0
-Does s memory bus shown shown' written written' writes writes' result =
+DoesScriptLine s memory bus shown shown' written written' writes writes' result =
     kept.Does s memory (kept.BusStands bus shown') written written' result
     × IfErr result (Leaves shown shown' written written' writes writes')
     × OnOk result (writes' ≡ writes)
 
 -- the last line where there is no next line; the number is that of a line that is too long
 abbrev pub stop_outcome : LineStop → ℕ → Outcome
-stop_outcome stop.Long number = misread 1 number
+stop_outcome stop.Long number = misread_outcome 1 number
 stop_outcome stop.TooLong number = too_long
 stop_outcome stop.Failed number = read_fault

@@ -16,7 +16,7 @@ use Rattle.uac_describe.specs.Outcome.{no_memory}
 use Rattle.uac_scripts.specs.ScriptTranscript.{Ending, with_text_first, ends, last_line}
 
 -- a line's bytes: at most 4,096, none of them a newline
-pub record IsLine (text : List ℕ) : Type 0 where
+pub record IsScriptLine (text : List ℕ) : Type 0 where
   pub short : length text ≤ most_of_line
   pub whole : All (λ b. b ≢ 10) text
 
@@ -45,8 +45,8 @@ pub record IsWanted (shown : List Reading) (taken : List ℕ) (ending : Ending) 
   pub text : List ℕ
   pub rest : List ℕ
   pub cut : taken ≡ with_newlines texts ++ (text ++ rest)
-  pub lines : AllByRecursion IsLine texts
-  pub line : IsLine text
+  pub lines : AllByRecursion IsScriptLine texts
+  pub line : IsScriptLine text
   pub whole : EndsLine rest
   pub saids : List (Result Phrase ℕ)
   pub say : AllZip Says texts saids

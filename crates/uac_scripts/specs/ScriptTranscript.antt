@@ -18,8 +18,8 @@ pub record Ending : Type 0 where
   pub meters : List Reading
 
 -- a line breaks a rule of the script: the rule and the line's number
-abbrev pub misread : ℕ → ℕ → Outcome
-misread rule number = record {
+abbrev pub misread_outcome : ℕ → ℕ → Outcome
+misread_outcome rule number = record {
   text = codes "script S" ++ decimal rule ++ codes " line " ++ decimal number ++ codes "\n";
   status = statuses.Script;
 }
@@ -33,7 +33,7 @@ no_more_text = record { text = []; status = statuses.WriteFault }
 
 -- the last line of a refusal, of the line with this number
 abbrev pub last_line : BusFault → ℕ → Outcome
-last_line (faults.Script rule) number = misread rule number
+last_line (faults.Script rule) number = misread_outcome rule number
 last_line (faults.Grammar fault) number = refusal fault
 last_line (faults.Topology fault) number = unsound fault
 last_line faults.WriteFault number = no_more_text
@@ -74,7 +74,7 @@ rest_by says rest stopped number w = ends no_more_text w
 -- by what stands first in the bytes; `go` goes on after a line
 abbrev pub head_by : Sayings → Head → End → ℕ → BusWorld → (List ℕ → List ℕ → BusWorld → Ending) → Ending
 head_by says (line text rest) end number w go = after_step (said_step (says text) w) number w (go text rest)
-head_by says long end number w go = ends (misread 1 number) w
+head_by says long end number w go = ends (misread_outcome 1 number) w
 head_by says past end number w go = ends too_long w
 head_by says (unended text) end number w go = rest_by says text end number w
 

@@ -11,14 +11,14 @@ ghost use Rattle.uac_bus.specs.After.{after};
 ghost use Rattle.uac_describe.specs.declared.status.Status.{Status};
 ghost use Rattle.uac_describe.specs.Outcome.{End, stopped};
 ghost use Rattle.uac_edges.specs.TextLines.{with_newlines};
-ghost use Rattle.uac_scripts.specs.Script.{IsLine, come_to};
+ghost use Rattle.uac_scripts.specs.Script.{IsScriptLine, come_to};
 ghost use Rattle.uac_scripts.specs.Computed.{HasOneTranscript, goes, transcript};
 
 /// The transcript of bytes that are lines and a rest: the text of what the lines come to one after the other, by what each says,
 /// up to the first refusal, which names its line; and where none is refused, then what the rest comes to in the world that they leave.
 #[tactic(auto, using(crate::proofs::ScriptLemmas::script_lines))]
 pub fn script_is_its_lines()
-    ensures { (shown : List Reading) (texts : List (List ℕ)) (rest : List ℕ) (end : End) → AllByRecursion IsLine texts
+    ensures { (shown : List Reading) (texts : List (List ℕ)) (rest : List ℕ) (end : End) → AllByRecursion IsScriptLine texts
         → length (with_newlines texts) ≤ most_of_input
         → transcript shown (with_newlines texts ++ rest) end
         ≡ come_to (after (map answer texts) (start shown)) 1
@@ -29,7 +29,7 @@ pub fn script_is_its_lines()
 #[tactic(auto, using(crate::proofs::ScriptLemmas::script_said))]
 pub fn script_is_what_its_lines_say()
     ensures { (shown : List Reading) (texts : List (List ℕ)) (saids : List (Result Phrase ℕ)) (rest : List ℕ) (end : End)
-        → AllZip Says texts saids → AllByRecursion IsLine texts → length (with_newlines texts) ≤ most_of_input
+        → AllZip Says texts saids → AllByRecursion IsScriptLine texts → length (with_newlines texts) ≤ most_of_input
         → transcript shown (with_newlines texts ++ rest) end
         ≡ come_to (after saids (start shown)) 1 (λ w. goes (most_of_input - length (with_newlines texts)) rest end (length texts + 1) w) }
 {}

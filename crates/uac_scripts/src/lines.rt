@@ -1,6 +1,6 @@
 // The lines that a script's run prints beside those of its lines, each from a buffer of fixed size.
 ghost use Rattle.std.specs.Prelude.{◌≡◌};
-ghost use Rattle.uac_scripts.specs.ScriptTranscript.{misread};
+ghost use Rattle.uac_scripts.specs.ScriptTranscript.{misread_outcome};
 
 use uac_edges::TextLine;
 
@@ -8,7 +8,7 @@ pub const TOO_LONG: &[u8] = b"input too long\n";
 
 /// The line for a script whose line of this number breaks a rule.
 pub fn misread_line(rule: u8, number: u64) -> TextLine<64>
-    ensures { result ≡ (misread rule number).text }
+    ensures { result ≡ (misread_outcome rule number).text }
 {
     let mut line = TextLine::new();
     line.push(b"script S");

@@ -2,19 +2,19 @@
 ghost use Rattle.std.specs.Prelude.{◌≡◌, ◌≢◌, ◌≤◌, false, [], None, length, IfErr, IfOk, List, OnErr, OnOk};
 ghost use Rattle.std.specs.Io.KnownBytes.{IsAtEnd, Keeps};
 ghost use Rattle.uac_edges.specs.Faults.{Rose};
-ghost use Rattle.uac_script.specs.Lent.{lent_phrase_result, LentKeeps};
+ghost use Rattle.uac_script.specs.Lent.{lent_phrase_result, IsLentInRange};
 ghost use Rattle.uac_script.specs.ScriptLines.{most_of_input};
 ghost use Rattle.uac_script.specs.LineReading.{answer};
 ghost use Rattle.uac_units.specs.Fitting.{IsFitted};
 ghost use Rattle.uac_units.specs.Hearing.{Reading};
-ghost use Rattle.uac_units.specs.Panel.{readings};
+ghost use Rattle.uac_units.specs.MeterReadings.{readings};
 ghost use Rattle.uac_bus.specs.BusWorld.{BusWorld, start};
 ghost use Rattle.uac_bus.specs.After.{said_step};
 ghost use Rattle.uac_bus.specs.BusKept.{BusStands};
 ghost use Rattle.uac_scripts.specs.declared.jobs.SourceJob.TheVariants.{Run};
 ghost use Rattle.uac_describe.specs.Closing.{IsFaultless, Closes};
 ghost use Rattle.uac_scripts.specs.ScriptRun.{IsRun};
-ghost use Rattle.uac_scripts.specs.Running.{Does, stop_outcome};
+ghost use Rattle.uac_scripts.specs.Running.{DoesScriptLine, stop_outcome};
 ghost use Rattle.uac_scripts.specs.Script.{wants};
 ghost use Rattle.uac_scripts.specs.ScriptTranscript.{last_line, ending_at};
 
@@ -103,7 +103,7 @@ fn do_line<K: Sink>(
     requires rack { IsFitted (λ v x. (⟦<dyn Unit as Unit>⟧ v).kind_of x) rack.now }
     requires short { length text.now ≤ 4096 }
     ensures does { (w : BusWorld) → BusStands bus.old (readings (λ v x. (⟦<dyn Meter as Meter>⟧ v).reading_of x) meters.old) w
-        → Does (said_step (answer text.now) w) (wants (answer text.now) w) bus.new
+        → DoesScriptLine (said_step (answer text.now) w) (wants (answer text.now) w) bus.new
         (readings (λ v x. (⟦<dyn Meter as Meter>⟧ v).reading_of x) meters.old)
         (readings (λ v x. (⟦<dyn Meter as Meter>⟧ v).reading_of x) meters.new)
         (K.written sink.old) (K.written sink.new) (K.faults sink.old) (K.faults sink.new) result }
@@ -125,9 +125,9 @@ fn do_said<K: Sink>(
     sink: &mut K,
 ) -> Result<(), BusFault>
     requires rack { IsFitted (λ v x. (⟦<dyn Unit as Unit>⟧ v).kind_of x) rack.now }
-    requires keeps { IfOk said LentKeeps }
+    requires keeps { IfOk said IsLentInRange }
     ensures does { (w : BusWorld) → BusStands bus.old (readings (λ v x. (⟦<dyn Meter as Meter>⟧ v).reading_of x) meters.old) w
-        → Does (said_step (lent_phrase_result said.entry) w) (wants (lent_phrase_result said.entry) w) bus.new
+        → DoesScriptLine (said_step (lent_phrase_result said.entry) w) (wants (lent_phrase_result said.entry) w) bus.new
         (readings (λ v x. (⟦<dyn Meter as Meter>⟧ v).reading_of x) meters.old)
         (readings (λ v x. (⟦<dyn Meter as Meter>⟧ v).reading_of x) meters.new)
         (K.written sink.old) (K.written sink.new) (K.faults sink.old) (K.faults sink.new) result }

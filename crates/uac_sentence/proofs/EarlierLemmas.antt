@@ -10,7 +10,7 @@ use Rattle.uac_sentence.specs.declared.stages.Stage.{Stage}
 use Rattle.uac_sentence.specs.declared.stages.Stage.TheVariants.{Start, Due, Opening, Before, Announced, Headless, Listing, Quiet, Setting, Formats, Formatted, FirstEndpoint, FirstDone, SecondEndpoint, Closing, ForeignAfter}
 use Rattle.uac_sentence.specs.declared.states.State.{State}
 use Rattle.uac_sentence.specs.Letter.{letter_of, is_listed}
-use Rattle.uac_sentence.specs.Steps.{step, may_end, is_before_association}
+use Rattle.uac_sentence.specs.Steps.{next_stage, may_end, is_before_association}
 use Rattle.uac_sentence.specs.Grammar.{start, state_after, stage_after, is_due, is_announced, is_headless, is_listing, is_past_control, lacks_association, lists_unknown, comes_again, is_audio_interface, is_control, is_unknown, is_association}
 use Rattle.uac_sentence.specs.Progress.{state_following, BreakNone, HasRead}
 use Rattle.uac_sentence.specs.Earlier.{is_same, has, latest_is, is_header_list, is_in_list, is_unknown_in_list, stands_without_association, is_second}
@@ -20,7 +20,7 @@ use Rattle.uac_sentence.proofs.Parts.{bytes_in, broken_passes, step_there}
 abbrev pub lead : Option Stage → List Letter → Option Stage
 lead s [] = s
 lead None (k ∷ ks) = None
-lead (Some s) (k ∷ ks) = lead (step s k) ks
+lead (Some s) (k ∷ ks) = lead (next_stage s k) ks
 
 -- the stage after the first blocks of a descriptor
 abbrev pub stage_following : List Letter → Option Stage
@@ -31,11 +31,11 @@ lead_none [] = refl
 lead_none (k ∷ ks) = refl
 
 -- one letter more
-pub lead-push : (o : Option Stage) (ks : List Letter) (s : Stage) (k : Letter) → lead o ks ≡ Some s → lead o (ks ++ k ∷ []) ≡ step s k
+pub lead-push : (o : Option Stage) (ks : List Letter) (s : Stage) (k : Letter) → lead o ks ≡ Some s → lead o (ks ++ k ∷ []) ≡ next_stage s k
 lead-push None [] s k e = cc
-lead-push (Some t) [] s k e = (let same : t ≡ s = cc in ap (λ u. step u k) same)
+lead-push (Some t) [] s k e = (let same : t ≡ s = cc in ap (λ u. next_stage u k) same)
 lead-push None (j ∷ ks) s k e = cc
-lead-push (Some t) (j ∷ ks) s k e = lead-push (step t j) ks s k e
+lead-push (Some t) (j ∷ ks) s k e = lead-push (next_stage t j) ks s k e
 
 -- ---- the stage
 
@@ -55,7 +55,7 @@ tells (Some t) s k =
     ∷ is_same letter.ControlInterface k
     ∷ (is_headless s && is_same letter.Header k || is_listing s && is_listed k) ∷ []
 
-told_following : (s : Stage) (k : Letter) → told (step s k) ≡ tells (step s k) s k
+told_following : (s : Stage) (k : Letter) → told (next_stage s k) ≡ tells (next_stage s k) s k
 told_following Start letter.Device = refl
 told_following Start k = refl
 told_following Due letter.Device = refl
@@ -89,7 +89,7 @@ told_following Closing k = refl
 told_following ForeignAfter letter.Device = refl
 told_following ForeignAfter k = refl
 
-told_at : (n : ℕ) (s t : Stage) (k : Letter) → step s k ≡ Some t → get_or (told (Some t)) n false ≡ get_or (tells (Some t) s k) n false
+told_at : (n : ℕ) (s t : Stage) (k : Letter) → next_stage s k ≡ Some t → get_or (told (Some t)) n false ≡ get_or (tells (Some t) s k) n false
 told_at n s t k e = ap (λ bits. get_or bits n false) (subst (λ o. told o ≡ tells o s k) e (told_following s k))
 
 -- the first step of a lead
@@ -98,22 +98,22 @@ first_step None ks t e = (let none : None ≡ Some t = sym (lead_none ks) ∙ e 
 first_step (Some u) ks t e = (u, refl)
 
 -- a letter among those that lead to a stage
-module _ (p : Stage → Bool) (j : Letter) (keeps : (s t : Stage) (k : Letter) → step s k ≡ Some t → p t ≡ (is_same j k || p s)) where
+module _ (p : Stage → Bool) (j : Letter) (keeps : (s t : Stage) (k : Letter) → next_stage s k ≡ Some t → p t ≡ (is_same j k || p s)) where
   has_along : (s t : Stage) (ks : List Letter) → lead (Some s) ks ≡ Some t → p t ≡ (has j ks || p s)
   has_along s t [] e = (let same : s ≡ t = cc in ap p (sym same))
   has_along s t (k ∷ ks) e =
-      let (u, is) = first_step (step s k) ks t e in
+      let (u, is) = first_step (next_stage s k) ks t e in
       has_along u t ks (subst (λ o. lead o ks ≡ Some t) is e)
       ∙ ap (λ b. has j ks || b) (keeps s u k is)
       ∙ sym (or_assoc (has j ks) (is_same j k) (p s))
       ∙ ap (λ b. b || p s) (or_comm (has j ks) (is_same j k))
 
 -- the latest letter
-module _ (p : Stage → Bool) (j : Letter) (is_latest : (s t : Stage) (k : Letter) → step s k ≡ Some t → p t ≡ is_same j k) where
+module _ (p : Stage → Bool) (j : Letter) (is_latest : (s t : Stage) (k : Letter) → next_stage s k ≡ Some t → p t ≡ is_same j k) where
   latest_along : (s t : Stage) (k : Letter) (ks : List Letter) → lead (Some s) (k ∷ ks) ≡ Some t → p t ≡ latest_is j (k ∷ ks)
   latest_along s t k [] e = is_latest s t k e
   latest_along s t k (next ∷ ks) e =
-      let (u, is) = first_step (step s k) (next ∷ ks) t e in
+      let (u, is) = first_step (next_stage s k) (next ∷ ks) t e in
       latest_along u t next ks (subst (λ o. lead o (next ∷ ks) ≡ Some t) is e)
 
   latest_following : p Start ≡ false → (t : Stage) (ks : List Letter) → stage_following ks ≡ Some t → p t ≡ latest_is j ks
@@ -137,7 +137,7 @@ listed_along s t [] e = (let same : s ≡ t = cc in ap is_listing (sym same) ∙
     at_end false true = refl
     at_end false false = refl
 listed_along s t (k ∷ ks) e =
-    let (u, is) = first_step (step s k) ks t e in
+    let (u, is) = first_step (next_stage s k) ks t e in
     let all : Bool = list_all is_listed ks in
     let header : Bool = is_same letter.Header k in
     let entity : Bool = is_listed k in
@@ -237,7 +237,7 @@ stage_along : (s : State) (place : ℕ) (blocks : List block.Block) → BreakNon
 unfolding state_after
 stage_along s place [] unbroken = refl
 stage_along s place (b ∷ blocks) (here, unbroken) =
-    let (t, e) = step_there (step s.stage (letter_of b)) (broken_passes s place b here).allowed in
+    let (t, e) = step_there (next_stage s.stage (letter_of b)) (broken_passes s place b here).allowed in
     ap (λ o. lead o (map letter_of blocks)) (e ∙ sym (ap (λ o. Some (stage_after o s.stage)) e))
     ∙ stage_along (state_after s place b) (place + bytes_in b) blocks unbroken
 

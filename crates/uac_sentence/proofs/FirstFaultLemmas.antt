@@ -17,7 +17,7 @@ use Rattle.uac_sentence.specs.declared.states.State.{State}
 use Rattle.uac_sentence.specs.Cutting.{IsPiece, begins_whole, chop}
 use Rattle.uac_sentence.specs.Fault.{GrammarFault, at_place, rest_rule, faults_over, faults_from}
 use Rattle.uac_sentence.specs.Letter.{letter_of, is_listed}
-use Rattle.uac_sentence.specs.Steps.{step, may_end}
+use Rattle.uac_sentence.specs.Steps.{next_stage, may_end}
 use Rattle.uac_sentence.specs.Values.{HasValues, has_wrong_value}
 use Rattle.uac_sentence.specs.Grammar.{grammar, start, state_after, state_read, rule_read, rule_broken, rule_at_end, first_fault, end_after, ends_before, ends_after, listing_after, list_end, passes_total, passes_list, ends_list_early, is_out_of_order, is_refused, lacks_association, lists_unknown, comes_again, least, is_due, is_headless}
 use Rattle.uac_sentence.specs.Sentence.{EachIn, SpellsItself, spellings, size}
@@ -25,13 +25,13 @@ use Rattle.uac_sentence.specs.Progress.{state_following, HasRead}
 use Rattle.uac_sentence.specs.Earlier.{is_same, has, latest_is, is_named, is_second, is_unknown_in_list, stands_without_association}
 use Rattle.uac_sentence.specs.FirstFault.{context_following, context_of, NextBlock, IsAtConfiguration, HasNoLength, MissesTotal, IsMisplaced, LacksPart, Breaks, g1, g2, g3, g4, g5, g6, g7, g8, g9, IsFault, IsFirstFault}
 use Rattle.uac_sentence.proofs.CuttingLemmas.{chop_is_cut}
-use Rattle.uac_sentence.proofs.FaultLaw.{at_place_is, option_or_some, faults_from_piece}
+use Rattle.uac_sentence.proofs.FaultLemmas.{at_place_is, option_or_some, faults_from_piece}
 use Rattle.uac_sentence.proofs.Parts.{bytes_in}
-use Rattle.uac_sentence.proofs.ValuesLaw.{right_values, no_wrong_value}
-use Rattle.uac_sentence.proofs.TotalLaw.{size-cons}
-use Rattle.uac_sentence.proofs.SentenceLaw.{bytes_left, bytes_right, piece_of, at_place_none}
-use Rattle.uac_sentence.proofs.ProgressLaw.{nothing_read, block_read, spellings-push, fault_unread, fault_broken, fault_short, fault_lone, fault_partial, fault_at_end}
-use Rattle.uac_sentence.proofs.ReachLaw.{start_step, due_step}
+use Rattle.uac_sentence.proofs.ValuesLemmas.{right_values, no_wrong_value}
+use Rattle.uac_sentence.proofs.SentenceTotalLemmas.{size-cons}
+use Rattle.uac_sentence.proofs.SentenceLemmas.{bytes_left, bytes_right, piece_of, at_place_none}
+use Rattle.uac_sentence.proofs.ProgressLemmas.{nothing_read, block_read, spellings-push, fault_unread, fault_broken, fault_short, fault_lone, fault_partial, fault_at_end}
+use Rattle.uac_sentence.proofs.ProgressReachLemmas.{start_step, due_step}
 use Rattle.uac_sentence.proofs.EarlierLemmas.{lead, stage_following, first_step, read_stage, lacks_is, lists_is, again_is, end_is, no_association_no_end}
 use Rattle.uac_sentence.proofs.FirstFaultOrderLemmas.{taken_may_begin, may_begin_taken}
 use Rattle.uac_sentence.proofs.FirstFaultTotalLemmas.{past_total, total_past, past_list, list_past, short_total, total_short, short_list, list_short}
@@ -113,7 +113,7 @@ due_letters : (ks : List Letter) (s : Stage) → stage_following ks ≡ Some s �
 due_letters [] s e none = inl refl
 due_letters (k ∷ ks) s e none =
     let (here, there) = or_parts (is_same letter.Configuration k) (has letter.Configuration ks) none in
-    let (u, is) = first_step (step Start k) ks s e in
+    let (u, is) = first_step (next_stage Start k) ks s e in
     let (device, next) = start_step k (ap is_none is) (λ same. false≢true (sym here ∙ ap (is_same letter.Configuration) same)) in
     inr (ap (λ j. j ∷ ks) device ∙ ap (λ js. letter.Device ∷ js) (nothing_following ks (sym (ap (λ o. lead o ks) next) ∙ e) there))
   where
@@ -121,7 +121,7 @@ due_letters (k ∷ ks) s e none =
     nothing_following [] e none = refl
     nothing_following (j ∷ js) e none =
         let (here, there) = or_parts (is_same letter.Configuration j) (has letter.Configuration js) none in
-        let (u, is) = first_step (step Due j) js s e in
+        let (u, is) = first_step (next_stage Due j) js s e in
         absurd (false≢true (sym here ∙ ap (is_same letter.Configuration) (due_step j (ap is_none is))))
 
 no_letters : (blocks : List block.Block) → map letter_of blocks ≡ [] → blocks ≡ []

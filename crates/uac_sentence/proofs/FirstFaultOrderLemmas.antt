@@ -12,15 +12,15 @@ use Rattle.uac_sentence.specs.declared.stages.Stage.{Stage}
 use Rattle.uac_sentence.specs.declared.stages.Stage.TheVariants.{Start, Due, Opening, Before, Announced, Headless, Listing}
 use Rattle.uac_sentence.specs.declared.states.State.{State}
 use Rattle.uac_sentence.specs.Letter.{letter_of, interface_letter}
-use Rattle.uac_sentence.specs.Steps.{step}
+use Rattle.uac_sentence.specs.Steps.{next_stage}
 use Rattle.uac_sentence.specs.Grammar.{start, state_after, is_in_turn, is_refused}
 use Rattle.uac_sentence.specs.Sentence.{spellings, interface_of, Begins, Continues, InTurn}
 use Rattle.uac_sentence.specs.Progress.{state_following, BreakNone, HasRead}
 use Rattle.uac_sentence.specs.FirstFault.{MayBegin}
-use Rattle.uac_sentence.proofs.OrderLaw.{Goes, goes_allows, allows_goes}
+use Rattle.uac_sentence.proofs.StepsLemmas.{Goes, goes_allows, allows_goes}
 use Rattle.uac_sentence.proofs.Parts.{bytes_in, broken_passes, step_there, TurnRun}
-use Rattle.uac_sentence.proofs.TurnLaw.{HasSmallNumbers, IsUsed, latest_of, flags_after, turn_of, of_turn, at_start, in_turn}
-use Rattle.uac_sentence.proofs.SentenceLaw.{small_numbers}
+use Rattle.uac_sentence.proofs.SentenceTurnLemmas.{HasSmallNumbers, IsUsed, latest_of, flags_after, turn_of, of_turn, at_start, in_turn}
+use Rattle.uac_sentence.proofs.SentenceLemmas.{small_numbers}
 use Rattle.uac_sentence.proofs.EarlierLemmas.{lead, lead-push, lead_none, read_stage}
 
 -- ---- the order
@@ -29,10 +29,10 @@ use Rattle.uac_sentence.proofs.EarlierLemmas.{lead, lead-push, lead_none, read_s
 module _ {A : Type 0} (f : A → Letter) where
   pub goes_on : (s t : Stage) (xs ys : List A) → lead (Some s) (map f xs) ≡ Some t → Goes f t ys → Goes f s (xs ++ ys)
   goes_on s t [] ys e h = (let same : s ≡ t = cc in subst (λ u. Goes f u ys) (sym same) h)
-  goes_on s t (x ∷ xs) ys e h = next (step s (f x)) refl e (λ u led. goes_on u t xs ys led h)
+  goes_on s t (x ∷ xs) ys e h = next (next_stage s (f x)) refl e (λ u led. goes_on u t xs ys led h)
     where
-      next : (o : Option Stage) → step s (f x) ≡ o → lead o (map f xs) ≡ Some t
-          → ((u : Stage) → lead (Some u) (map f xs) ≡ Some t → Goes f u (xs ++ ys)) → (u : Stage) × (step s (f x) ≡ Some u) × Goes f u (xs ++ ys)
+      next : (o : Option Stage) → next_stage s (f x) ≡ o → lead o (map f xs) ≡ Some t
+          → ((u : Stage) → lead (Some u) (map f xs) ≡ Some t → Goes f u (xs ++ ys)) → (u : Stage) × (next_stage s (f x) ≡ Some u) × Goes f u (xs ++ ys)
       next None is e go = (let none : None ≡ Some t = sym (lead_none (map f xs)) ∙ e in cc)
       next (Some u) is e go = (u, is, go u e)
 
@@ -174,7 +174,7 @@ module _ (blocks : List block.Block) (s : State) (place : ℕ) (b : block.Block)
       subst (λ u. IsFollowing u (earlier_following [] blocks)) (sym read.state_is)
       (after_along start 0 blocks [] numbers.0 (record { used = at_start; latest = refl }))
 
-  lead_more : lead (Some Start) (map letter_of (blocks ++ b ∷ [])) ≡ step s.stage (letter_of b)
+  lead_more : lead (Some Start) (map letter_of (blocks ++ b ∷ [])) ≡ next_stage s.stage (letter_of b)
   lead_more =
       ap (lead (Some Start)) (map-append letter_of blocks (b ∷ []))
       ∙ lead-push (Some Start) (map letter_of blocks) s.stage (letter_of b) (read_stage blocks s place read)
@@ -182,8 +182,8 @@ module _ (blocks : List block.Block) (s : State) (place : ℕ) (b : block.Block)
   pub taken_may_begin : is_refused s b ≡ false → MayBegin (blocks ++ b ∷ [])
   unfolding is_refused start
   taken_may_begin h =
-      let (order, turn) = or_parts (is_none (step s.stage (letter_of b))) (not (is_in_turn s.used s.latest b)) h in
-      let (t, e) = step_there (step s.stage (letter_of b)) order in
+      let (order, turn) = or_parts (is_none (next_stage s.stage (letter_of b))) (not (is_in_turn s.used s.latest b)) h in
+      let (t, e) = step_there (next_stage s.stage (letter_of b)) order in
       let this : IsInTurn (earlier_following [] blocks) b =
       turn_is s.used (earlier_following [] blocks) b numbers.1 is_following.used
       (subst (λ l. is_in_turn s.used l b ≡ true) is_following.latest (not-false (is_in_turn s.used s.latest b) turn)) in
@@ -204,7 +204,7 @@ module _ (blocks : List block.Block) (s : State) (place : ℕ) (b : block.Block)
       turn_first (earlier_following [] blocks) b begins.more
       (in_turn_following [] blocks (b ∷ begins.more)
       (subst (λ xs. InTurn [] (filter_map interface_of xs)) (append_assoc blocks (b ∷ []) begins.more) begins.in_turn)) in
-      or_from (is_none (step s.stage (letter_of b))) (not (is_in_turn s.used s.latest b))
+      or_from (is_none (next_stage s.stage (letter_of b))) (not (is_in_turn s.used s.latest b))
       (ap is_none (sym lead_more ∙ led))
       (not_from_true (is_in_turn s.used s.latest b)
       (subst (λ l. is_in_turn s.used l b ≡ true) (sym is_following.latest) (is_turn s.used (earlier_following [] blocks) b numbers.1 is_following.used turn)))

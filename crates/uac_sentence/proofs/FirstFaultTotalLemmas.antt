@@ -14,7 +14,7 @@ use Rattle.uac_sentence.specs.Sentence.{size}
 use Rattle.uac_sentence.specs.Progress.{state_following, HasRead}
 use Rattle.uac_sentence.specs.FirstFault.{ConfigurationTotal, HeaderTotal, IsPast, IsShort}
 use Rattle.uac_sentence.proofs.Parts.{bytes_in}
-use Rattle.uac_sentence.proofs.TotalLaw.{size-cons}
+use Rattle.uac_sentence.proofs.SentenceTotalLemmas.{size-cons}
 
 -- ---- each end, by a fold of its own
 

@@ -12,11 +12,11 @@ use Rattle.uac_sentence.specs.declared.states.Latest.{Latest}
 use Rattle.uac_sentence.specs.declared.states.Listing as listing
 use Rattle.uac_sentence.specs.declared.states.State.{State}
 use Rattle.uac_sentence.specs.Letter.{letter_of, is_listed}
-use Rattle.uac_sentence.specs.Steps.{step, may_end}
+use Rattle.uac_sentence.specs.Steps.{next_stage, may_end}
 use Rattle.uac_sentence.specs.Values.{has_wrong_value}
 use Rattle.uac_sentence.specs.Grammar.{end_after, ends_before, ends_after, listing_after, list_end, used_after, latest_after, is_in_turn, stage_after, state_after, passes_total, passes_list, ends_list_early, lacks_association, lists_unknown, comes_again, is_refused, is_out_of_order, least, rule_broken, is_due, is_headless, rule_at_end}
 use Rattle.uac_sentence.specs.Sentence.{EachIn}
-use Rattle.uac_sentence.proofs.OrderLaw.{Goes}
+use Rattle.uac_sentence.proofs.StepsLemmas.{Goes}
 
 -- the number of a block's bytes
 abbrev pub bytes_in : block.Block → ℕ
@@ -72,7 +72,7 @@ abbrev named : Stage → Letter → Bool
 named s l = lacks_association s l || lists_unknown s l || comes_again s l
 
 -- they name nothing that the order allows
-named_is_refused : (s : Stage) (l : Letter) → (named s l && is_some (step s l)) ≡ false
+named_is_refused : (s : Stage) (l : Letter) → (named s l && is_some (next_stage s l)) ≡ false
 unfolding lacks_association lists_unknown comes_again
 named_is_refused Start Device = refl
 named_is_refused Start l = refl
@@ -120,7 +120,7 @@ pub record Passes (s : State) (place : ℕ) (b : block.Block) : Type 0 where
   pub end : ends_before (end_after s.end place b) (place + bytes_in b) ≡ false
   pub list : ends_before (list_end (listing_after s.listing place b)) (place + bytes_in b) ≡ false
   pub early : (not (is_listed (letter_of b)) && ends_after (list_end s.listing) place) ≡ false
-  pub allowed : is_none (step s.stage (letter_of b)) ≡ false
+  pub allowed : is_none (next_stage s.stage (letter_of b)) ≡ false
   pub turn : is_in_turn s.used s.latest b ≡ true
 
 refused_parts : (r l u a : Bool) → (r && not (l || u || a)) ≡ false → l ≡ false → u ≡ false → a ≡ false → r ≡ false
@@ -158,7 +158,7 @@ broken_passes s place b e =
     (ends_before (list_end (listing_after s.listing place b)) (place + bytes_in b))
     (not (is_listed (letter_of b)) && ends_after (list_end s.listing) place)
     (is_refused s b) (lacks_association s.stage (letter_of b)) (lists_unknown s.stage (letter_of b)) (comes_again s.stage (letter_of b)) e in
-    let (allowed, turn) = or_parts (is_none (step s.stage (letter_of b))) (not (is_in_turn s.used s.latest b)) refused in
+    let (allowed, turn) = or_parts (is_none (next_stage s.stage (letter_of b))) (not (is_in_turn s.used s.latest b)) refused in
     record { value = e4; end = total; list = list; early = early; allowed = allowed; turn = not-false (is_in_turn s.used s.latest b) turn }
 
 none_some : {T : Type 0} (o : Option T) → is_none o ≡ false → is_some o ≡ true
@@ -166,11 +166,11 @@ none_some None e = absurd (true≢false e)
 none_some (Some x) e = refl
 
 -- where the order allows the block, no other rule of the order names it
-unnamed : (s : Stage) (l : Letter) → is_none (step s l) ≡ false → named s l ≡ false
+unnamed : (s : Stage) (l : Letter) → is_none (next_stage s l) ≡ false → named s l ≡ false
 unnamed s l e =
-    elim (and_cases (named s l) (is_some (step s l)) (named_is_refused s l)) [
+    elim (and_cases (named s l) (is_some (next_stage s l)) (named_is_refused s l)) [
       | inl h ↦ h
-      | inr h ↦ absurd (true≢false (sym (none_some (step s l) e) ∙ h))
+      | inr h ↦ absurd (true≢false (sym (none_some (next_stage s l) e) ∙ h))
     ]
 
 passes_broken : (s : State) (place : ℕ) (b : block.Block) → Passes s place b → rule_broken s place (bytes_in b) b ≡ None
@@ -185,7 +185,7 @@ passes_broken s place b p =
     (not (is_listed (letter_of b)) && ends_after (list_end s.listing) place)
     (is_refused s b) (lacks_association s.stage (letter_of b)) (lists_unknown s.stage (letter_of b)) (comes_again s.stage (letter_of b))
     p.value p.end p.list p.early
-    (or_from (is_none (step s.stage (letter_of b))) (not (is_in_turn s.used s.latest b)) p.allowed (not_from_true (is_in_turn s.used s.latest b) p.turn))
+    (or_from (is_none (next_stage s.stage (letter_of b))) (not (is_in_turn s.used s.latest b)) p.allowed (not_from_true (is_in_turn s.used s.latest b) p.turn))
     lacks lists again
 
 -- the end of the input
@@ -226,7 +226,7 @@ parts_following : (s : State) (place : ℕ) (b : block.Block) (blocks : List blo
     → Passes s place b → Parts (state_after s place b) (place + bytes_in b) blocks → Parts s place (b ∷ blocks)
 unfolding state_after
 parts_following s place b blocks p parts =
-    let (t, e) = step_there (step s.stage (letter_of b)) p.allowed in
+    let (t, e) = step_there (next_stage s.stage (letter_of b)) p.allowed in
     record {
       values = (p.value, parts.values);
       end = (p.end, parts.end);

@@ -5,7 +5,7 @@ use Rattle.std.specs.List.{AllByRecursion}
 use Rattle.uac_descriptor.specs.declared.context.Context.{Context}
 use Rattle.uac_descriptor.specs.declared.context.Context.TheVariants as context
 use Rattle.uac_descriptor.specs.declared.block.Block as block
-use Rattle.uac_descriptor.specs.Kinds.{configuration_of, header_of}
+use Rattle.uac_descriptor.specs.Kinds.{as_configuration, as_header}
 use Rattle.uac_descriptor.specs.LayoutRows.{Spells}
 use Rattle.uac_descriptor.specs.Spelling.{spelling}
 use Rattle.uac_sentence.specs.declared.faults.GrammarFault.{GrammarFault}
@@ -82,13 +82,13 @@ IsShort n total = n < total
 abbrev pub ConfigurationTotal : (ℕ → ℕ → Type 0) → List block.Block → Type 0
 ConfigurationTotal IsSo [] = ⊥
 ConfigurationTotal IsSo (b ∷ blocks) =
-    IsSoOf (configuration_of b) (λ c. IsSo (size (b ∷ blocks)) c.total) (ConfigurationTotal IsSo blocks)
+    IsSoOf (as_configuration b) (λ c. IsSo (size (b ∷ blocks)) c.total) (ConfigurationTotal IsSo blocks)
 
 -- the blocks end with the list of the first header, and it is so of the number of its bytes and of the header's total
 abbrev pub HeaderTotal : (ℕ → ℕ → Type 0) → List block.Block → Type 0
 HeaderTotal IsSo [] = ⊥
 HeaderTotal IsSo (b ∷ blocks) =
-    IsSoOf (header_of b) (λ h. AllByRecursion (λ b. IsTrue (is_listed (letter_of b))) blocks × IsSo (size (b ∷ blocks)) h.total)
+    IsSoOf (as_header b) (λ h. AllByRecursion (λ b. IsTrue (is_listed (letter_of b))) blocks × IsSo (size (b ∷ blocks)) h.total)
     (HeaderTotal IsSo blocks)
 
 -- the block ends past the configuration's total, or in the header's list past the header's, or the list ends before it, short of that

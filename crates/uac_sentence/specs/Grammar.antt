@@ -3,7 +3,7 @@ use Rattle.std.specs.Prelude.{ℕ, ◌+◌, Bool, true, false, ◌&&◌, ◌||�
 use Rattle.std.specs.Prelude.{slice_index_or, slice_set, Option, Some, None, is_none}
 use Rattle.std.specs.Option.{option_map, option_map_or}
 use Rattle.uac_descriptor.specs.declared.context.Context.TheVariants as context
-use Rattle.uac_descriptor.specs.Kinds.{configuration_of, header_of}
+use Rattle.uac_descriptor.specs.Kinds.{as_configuration, as_header}
 use Rattle.uac_descriptor.specs.BlockReading.{block_of}
 use Rattle.uac_descriptor.specs.declared.standard.Interface as interface
 use Rattle.uac_descriptor.specs.declared.block.Block as block
@@ -18,7 +18,7 @@ use Rattle.uac_sentence.specs.declared.states.State.{State}
 use Rattle.uac_descriptor.specs.Classes.{is_control_interface, is_streaming_interface}
 use Rattle.uac_descriptor.specs.BlockTurns.{interface_of}
 use Rattle.uac_sentence.specs.Letter.{letter_of, context_after, is_listed}
-use Rattle.uac_sentence.specs.Steps.{step, may_end, is_before_association}
+use Rattle.uac_sentence.specs.Steps.{next_stage, may_end, is_before_association}
 use Rattle.uac_sentence.specs.Values.{has_wrong_value}
 use Rattle.uac_sentence.specs.Fault.{GrammarFault, Rules, faults_from}
 
@@ -27,7 +27,7 @@ use Rattle.uac_sentence.specs.Fault.{GrammarFault, Rules, faults_from}
 -- where the total ends, once the configuration is read
 abbrev pub end_after : Option ℕ → ℕ → block.Block → Option ℕ
 end_after (Some end) place b = Some end
-end_after None place b = option_map (λ c. place + c.total) (configuration_of b)
+end_after None place b = option_map (λ c. place + c.total) (as_configuration b)
 
 -- the total ends before this place
 abbrev pub ends_before : Option ℕ → ℕ → Bool
@@ -42,7 +42,7 @@ ends_after None place = false
 -- ---- the header's total: wTotalLength, Audio Class 2.0, 4.7.2
 
 abbrev pub listing_after : Listing → ℕ → block.Block → Listing
-listing_after listing.Awaited place b = option_map_or (λ h. listing.Open (place + h.total)) (header_of b) listing.Awaited
+listing_after listing.Awaited place b = option_map_or (λ h. listing.Open (place + h.total)) (as_header b) listing.Awaited
 listing_after (listing.Open end) place b = if is_listed (letter_of b) then listing.Open end else listing.Closed
 listing_after listing.Closed place b = listing.Closed
 
@@ -86,7 +86,7 @@ unfoldable pub state_after : State → ℕ → block.Block → State
 state_after s place b =
     record {
       context = context_after s.context b;
-      stage = stage_after (step s.stage (letter_of b)) s.stage;
+      stage = stage_after (next_stage s.stage (letter_of b)) s.stage;
       used = used_after s.used b;
       latest = latest_after s.latest b;
       end = end_after s.end place b;
@@ -173,7 +173,7 @@ comes_again s k = not (is_before_association s) && is_association k || is_past_c
 
 -- the sentence does not allow the block here
 unfoldable pub is_refused : State → block.Block → Bool
-is_refused s b = is_none (step s.stage (letter_of b)) || not (is_in_turn s.used s.latest b)
+is_refused s b = is_none (next_stage s.stage (letter_of b)) || not (is_in_turn s.used s.latest b)
 
 -- G6: a block that the sentence does not allow, and that G7, G8 and G9 do not name
 unfoldable pub is_out_of_order : State → block.Block → Bool

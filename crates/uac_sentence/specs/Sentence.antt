@@ -3,7 +3,7 @@ use Rattle.std.specs.Prelude.{true, false, ◌≡◌, ℕ, ◌<◌, Bool, List, 
 use Rattle.uac_descriptor.specs.declared.context.Context.{Context}
 use Rattle.uac_descriptor.specs.declared.context.Context.TheVariants as context
 use Rattle.uac_descriptor.specs.declared.block.Block as block
-use Rattle.uac_descriptor.specs.Kinds.{configuration_of, header_of}
+use Rattle.uac_descriptor.specs.Kinds.{as_configuration, as_header}
 use Rattle.uac_descriptor.specs.LayoutRows.{Spells}
 use Rattle.uac_descriptor.specs.Spelling.{spelling}
 use Rattle.uac_sentence.specs.declared.letters.Letter.{Letter}
@@ -34,7 +34,7 @@ IsSoOf None IsSo ForeignAfter = ForeignAfter
 -- the first configuration's total is the number of its bytes and of all bytes after it
 abbrev pub HasWholeTotal : List block.Block → Type 0
 HasWholeTotal [] = Unit {0}
-HasWholeTotal (b ∷ blocks) = IsSoOf (configuration_of b) (λ c. size (b ∷ blocks) ≡ c.total) (HasWholeTotal blocks)
+HasWholeTotal (b ∷ blocks) = IsSoOf (as_configuration b) (λ c. size (b ∷ blocks) ≡ c.total) (HasWholeTotal blocks)
 
 -- a terminal, a unit or a clock entity
 abbrev pub is_entity : Letter → Bool
@@ -60,7 +60,7 @@ is_entity letter.Stray = false
 abbrev pub HasListTotal : List block.Block → Type 0
 HasListTotal [] = Unit {0}
 HasListTotal (b ∷ blocks) =
-    IsSoOf (header_of b) (λ h. size (b ∷ take_while (λ b. is_entity (letter_of b)) blocks) ≡ h.total) (HasListTotal blocks)
+    IsSoOf (as_header b) (λ h. size (b ∷ take_while (λ b. is_entity (letter_of b)) blocks) ≡ h.total) (HasListTotal blocks)
 
 -- the number of each interface is a byte
 abbrev pub HasSmallNumbers : List block.Block → Type 0

@@ -7,7 +7,7 @@ use Rattle.uac_descriptor.specs.declared.block.Block as block
 use Rattle.uac_descriptor.specs.declared.block.Block.TheVariants as variant
 use Rattle.uac_descriptor.specs.Standard.{VERSION_02_00}
 pub use Rattle.uac_descriptor.specs.Contexts.{is_audio}
-pub use Rattle.uac_descriptor.specs.BlockFields.{is_isochronous, IsHighSpeed, IsFormat}
+pub use Rattle.uac_descriptor.specs.BlockFields.{is_isochronous, IsHighSpeed, IsTypeOneFormat}
 unfoldable pub use Rattle.uac_descriptor.specs.BlockFields.{is_no_high_speed, is_no_format}
 
 -- the two bits of control n in bmControls, the lowest two being control 0: 00 absent, 01 read-only, 11 host-programmable
@@ -33,7 +33,7 @@ HasValues place (variant.ClockSource c) = IsAllowed 0 c.controls × IsAllowed 1 
 HasValues place (variant.ClockSelector c) = (length c.sources ≢ 0) × IsAllowed 0 c.controls
 HasValues place (variant.ClockMultiplier c) = IsAllowed 0 c.controls × IsAllowed 1 c.controls
 HasValues place (variant.General g) = IsAllowed 0 g.controls × IsAllowed 1 g.controls
-HasValues place (variant.TypeOne t) = IsFormat t
+HasValues place (variant.TypeOne t) = IsTypeOneFormat t
 HasValues place (variant.Configuration _) = Unit {0}
 HasValues place (variant.Association _) = Unit {0}
 HasValues place (variant.Interface _) = Unit {0}

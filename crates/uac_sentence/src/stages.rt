@@ -1,6 +1,6 @@
 // How far in the order of the descriptor the blocks have come.
 ghost use Rattle.std.specs.Prelude.{◌≡◌};
-ghost use Rattle.uac_sentence.specs.Steps.{begin_part, step};
+ghost use Rattle.uac_sentence.specs.Steps.{begin_part, next_stage};
 
 use crate::letters::Letter;
 
@@ -44,7 +44,7 @@ pub enum Stage {
 impl Stage {
     /// Where a block of this letter leads; None exactly where the order does not allow it.
     pub fn after(self, letter: Letter) -> Option<Stage>
-        ensures { result ≡ step self letter }
+        ensures { result ≡ next_stage self letter }
     {
         match (self, letter) {
             (Stage::Start, Letter::Device) => Some(Stage::Due),

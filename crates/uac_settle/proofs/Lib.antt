@@ -1,4 +1,4 @@
-pub mod Gaps
-pub mod Stretches
-pub mod TurnsGoOn
+pub mod SettlingGapLemmas
+pub mod SettlingStretchLemmas
+pub mod SettlingTurnLemmas
 mod Worked

@@ -2,7 +2,7 @@
 use Rattle.std.specs.Prelude.{◌≡◌, ℕ, ◌+◌, ◌-◌, ◌*◌, ◌%◌, ◌<◌, ◌≤◌, true, false, pos, negsuc, ◌+ℤ◌, ◌-ℤ◌, ◌≤ℤ◌, List, [], ◌∷◌, ◌++◌}
 use Rattle.std.specs.Int.{int_min, int_max}
 use Rattle.uac_clock.specs.declared.values.Nominal.{Nominal}
-use Rattle.uac_clock.specs.Nominal.{HasRoom}
+use Rattle.uac_clock.specs.Nominal.{StaysBetweenWholes}
 use Rattle.uac_rate.specs.Levels.{HasBand, AreIntervals, Point, level_and_remainder, target_and_remainder, Interval, TakesReport, IsCounted}
 use Rattle.uac_rate.specs.Levels.{Anchor, anchor_of, anchor_after_interval}
 use Rattle.uac_settle.specs.Settling.{pull_of, settle_of, Gap, left_of, error_of, Served, IsServed, IsIntervalEnd, Stretch, SettlesWithin}
@@ -11,7 +11,7 @@ use Rattle.uac_settle.specs.Settling.{pull_of, settle_of, Gap, left_of, error_of
 -- empty. An error that lies the other way counts as 0 in either half
 abbrev pub GapsGoHome : Type 0
 GapsGoHome =
-    (values : Nominal) (anchor : Anchor) (p : Point) → HasRoom values → Gap values anchor p
+    (values : Nominal) (anchor : Anchor) (p : Point) → StaysBetweenWholes values → Gap values anchor p
     → (level_and_remainder p.level p.host ≤ target_and_remainder p.target p.clock
     + left_of (pull_of values) anchor.age (level_and_remainder anchor.level anchor.host - target_and_remainder p.target anchor.clock))
     × (target_and_remainder p.target p.clock ≤ level_and_remainder p.level p.host
@@ -20,7 +20,7 @@ GapsGoHome =
 -- gaps over the integers, by the error at the anchor and at the point
 abbrev pub GapsOverIntegers : Type 0
 GapsOverIntegers =
-    (values : Nominal) (anchor : Anchor) (p : Point) → HasRoom values → Gap values anchor p
+    (values : Nominal) (anchor : Anchor) (p : Point) → StaysBetweenWholes values → Gap values anchor p
     → let first = error_of anchor.level p.target anchor.host anchor.clock in
     let last = error_of p.level p.target p.host p.clock in
     let pulled = pos (anchor.age * pull_of values) in
@@ -45,13 +45,14 @@ LostReportsGoOn =
 
 -- gaps one after the other take every stretch home
 abbrev pub StretchesSettle : Type 0
-StretchesSettle = (values : Nominal) → HasRoom values → HasBand values 65 → SettlesWithin values (settle_of values)
+StretchesSettle = (values : Nominal) → StaysBetweenWholes values → HasBand values 65 → SettlesWithin values (settle_of values)
 
 -- a stretch goes on with whatever interval comes next, with its packet lost or not, and with its report lost where that isn't the fourth in
 -- succession
 abbrev pub StretchesGoOn : Type 0
 StretchesGoOn =
-    (values : Nominal) (service period : ℕ) (all : List Served) (start last : Point) (served : Served) → HasRoom values → HasBand values 65
+    (values : Nominal) (service period : ℕ) (all : List Served) (start last : Point) (served : Served) → StaysBetweenWholes values
+    → HasBand values 65
     → Stretch values service period all start last → IsServed values service served
     → (last.waited + service ≡ period → served.report_lost ≡ true → last.lost < 3)
     → (next : Point) × Stretch values service period (all ++ served ∷ []) start next

@@ -15,8 +15,8 @@ use Rattle.uac_descriptor.specs.declared.block.Block.TheVariants as row
 use Rattle.uac_sentence.specs.Grammar.{first_fault}
 use Rattle.uac_sentence.specs.Sentence.{HasSmallNumbers, spellings}
 use Rattle.uac_sentence.specs.declared.faults.GrammarFault.{GrammarFault}
-use Rattle.uac_sentence.proofs.SentenceLaw.{bytes_right, none_sentence, small_numbers}
-use Rattle.uac_sentence.proofs.WellFormedLaw.{sentence_is_well_formed}
+use Rattle.uac_sentence.proofs.SentenceLemmas.{bytes_right, none_sentence, small_numbers}
+use Rattle.uac_sentence.proofs.WellFormedLemmas.{sentence_is_well_formed}
 use Rattle.uac_entities.specs.Entities.{entities_of, entity_of}
 use Rattle.uac_entities.specs.EntitySettings.{declared_setting_at, declared_setting_of, declared_settings}
 use Rattle.uac_entities.specs.EntityInterfaces.{streaming_interface_at, streaming_interface_of}
@@ -26,7 +26,7 @@ use Rattle.uac_entities.specs.declared.stream.StreamInterface.{StreamInterface}
 use Rattle.uac_topology_rules.specs.Clusters.{with_own_clusters}
 use Rattle.uac_topology_rules.specs.declared.fault.TopologyFault.{TopologyFault}
 use Rattle.uac_topology.specs.Function.{FunctionFields}
-use Rattle.uac_topology.specs.Topology.{IsSoundFunction, first_broken}
+use Rattle.uac_topology.specs.Topology.{IsSoundFunction, first_fault_of}
 use Rattle.uac_topology.proofs.Clustered.{seen_alike}
 use Rattle.uac_grammar.specs.Stop.{shown_fault}
 use Rattle.uac_script.specs.Phrase.{Phrase, nothing_line, bytes_line, go_line, control_line, get_line, set_line, show_line, break_line, append_line, track_line, jack_line, deviate_line, microframes_line, detail_line, report_line}
@@ -42,7 +42,7 @@ use Rattle.uac_bus.specs.declared.fault.BusFault.{BusFault}
 use Rattle.uac_bus.specs.BusWorld.{Step, describing, done, step_feed, step_go, if_no_fault, if_sound, refused, running, silently, step_describing}
 use Rattle.uac_configuration.proofs.Described.{blocks_of_sentence}
 use Rattle.uac_bands.proofs.Begun.{runs_start_in_band}
-use Rattle.uac_bands.proofs.SoundStart.{runs_start_sound}
+use Rattle.uac_bands.proofs.BandTransfersStartLemmas.{runs_start_sound}
 use Rattle.uac_steady.proofs.Forward.{KeepsGood, none_quiet, one_more}
 
 -- ---- what lines feed
@@ -138,7 +138,7 @@ pub record IsDescribed (function : FunctionFields) : Type 0 where
   pub small : All (λ s. s.number < 256) function.streams
   pub ids : AreSmall (map (λ e. e.id) function.entities)
 
-pub described : (bytes : List ℕ) → AreBytes bytes → first_fault bytes ≡ None → first_broken (blocks_of bytes) ≡ None
+pub described : (bytes : List ℕ) → AreBytes bytes → first_fault bytes ≡ None → first_fault_of (blocks_of bytes) ≡ None
     → IsDescribed (function_of (blocks_of bytes))
 unfolding function_of streams_from
 described bytes are whole sound =
@@ -177,12 +177,12 @@ module _ (P : Phrase → Step → Type 0) (fails : (phrase : Phrase) (fault : Bu
 
   gone_is : AreBytes bytes → P go_line (step_go bytes meters)
   unfolding step_go
-  gone_is are = by (first_fault bytes) refl (first_broken (blocks_of bytes)) refl
+  gone_is are = by (first_fault bytes) refl (first_fault_of (blocks_of bytes)) refl
     where
       function : FunctionFields
       function = function_of (blocks_of bytes)
 
-      by : (f : Option GrammarFault) → first_fault bytes ≡ f → (b : Option TopologyFault) → first_broken (blocks_of bytes) ≡ b
+      by : (f : Option GrammarFault) → first_fault bytes ≡ f → (b : Option TopologyFault) → first_fault_of (blocks_of bytes) ≡ b
           → P go_line (if_no_fault f (if_sound b (done (running (at_start bytes function meters)) (ready_line function ∷ []))))
       by None whole None sound = starts function (described bytes are whole sound)
       by None whole (Some fault) broken = fails go_line _
@@ -199,8 +199,8 @@ module _ (P : Phrase → Step → Type 0) (fails : (phrase : Phrase) (fault : Bu
   describing_is (show_line name) are feed = fails (show_line name) _
   describing_is (break_line later) are feed = fails (break_line later) _
   describing_is (append_line number samples) are feed = fails (append_line number samples) _
-  describing_is (track_line number voice) are feed = fails (track_line number voice) _
-  describing_is (jack_line terminal voice) are feed = fails (jack_line terminal voice) _
+  describing_is (track_line number tone) are feed = fails (track_line number tone) _
+  describing_is (jack_line terminal tone) are feed = fails (jack_line terminal tone) _
   describing_is (deviate_line clock ppm) are feed = fails (deviate_line clock ppm) _
   describing_is (microframes_line count marks) are feed = fails (microframes_line count marks) _
   describing_is (detail_line level) are feed = fails (detail_line level) _

@@ -10,12 +10,12 @@ use Rattle.uac_device.specs.DeviceWorld.{Domain}
 use Rattle.uac_request.specs.Requests.{setup_of}
 use Rattle.uac_request.specs.declared.setup.Setup.{Setup}
 use Rattle.uac_mixer.specs.MixerElements.{fits_element}
-use Rattle.uac_script.specs.Phrase.{SaidMark, Phrase, nothing_line, bytes_line, go_line, control_line, get_line, set_line, show_line, break_line, append_line, track_line, jack_line, deviate_line, microframes_line, detail_line, report_line}
+use Rattle.uac_script.specs.Phrase.{PhraseMark, Phrase, nothing_line, bytes_line, go_line, control_line, get_line, set_line, show_line, break_line, append_line, track_line, jack_line, deviate_line, microframes_line, detail_line, report_line}
 use Rattle.uac_transcript.specs.Transcript.{Said, Sight, TransferOutcome, says_answer, says_view, says_meter, says_passed, says_renders, says_steady}
 use Rattle.uac_transcript.specs.declared.report.StreamCounts.{StreamCounts}
 use Rattle.uac_running.specs.RunningWorld.{RunningWorld}
 use Rattle.uac_running.specs.RunningWorld as world
-use Rattle.uac_running.specs.RunningNames.{size_of}
+use Rattle.uac_running.specs.RunningNames.{natural_of_int}
 use Rattle.uac_running.specs.Events.{microframe, microframes}
 use Rattle.uac_running.specs.RunningLines.{domain_line, report_lines, says_stream, stream_line}
 use Rattle.uac_running.specs.RunningTransfers.{element_named, read_element, set_element, show_element, transfer, after_transfer}
@@ -26,8 +26,8 @@ use Rattle.uac_bands.specs.BandTransfers.{IsSoundRun}
 use Rattle.uac_bands.proofs.Begun.{calls_keep_bands}
 use Rattle.uac_bands.proofs.LookingBack.{calls_look_back, stay_steady}
 use Rattle.uac_bands.proofs.Transferred.{transfers_keep_bands}
-use Rattle.uac_bands.proofs.SoundRuns.{calls_keep_sound, microframes_keep_sound}
-use Rattle.uac_bands.proofs.SoundTransfers.{transfers_keep_sound}
+use Rattle.uac_bands.proofs.BandTransfersRunLemmas.{calls_keep_sound, microframes_keep_sound}
+use Rattle.uac_bands.proofs.BandTransfersLemmas.{transfers_keep_sound}
 use Rattle.uac_steady.specs.Scripts.{is_steady_in}
 use Rattle.uac_steady.proofs.Steps.{appended, framed, gone_on, off, on_element_is, reads, set_to, shown, toned, tracked, unless_is}
 
@@ -114,7 +114,7 @@ report_quiet r =
 
 -- ---- the running device
 
-sound_after : (marks : List SaidMark) (count : ℕ) (r : RunningWorld) → IsSoundRun r → IsSoundRun (microframes marks count r).world
+sound_after : (marks : List PhraseMark) (count : ℕ) (r : RunningWorld) → IsSoundRun r → IsSoundRun (microframes marks count r).world
 unfolding microframes
 sound_after marks zero r sound = sound
 sound_after marks (suc count) r sound = sound_after marks count (microframe marks r).world (microframes_keep_sound marks r sound)
@@ -127,7 +127,7 @@ module _ (r : RunningWorld) (band : RunInBand r) (sound : IsSoundRun r) where
   silent : (next : RunningWorld) → RunInBand next → IsSoundRun next → LeavesGood (running next) []
   silent next banded sounds = record { good = (banded, sounds); quiet = none_quiet }
 
-  microframes_leave : (marks : List SaidMark) (count : ℕ) → is_steady (microframes marks count r).world.history ≡ true
+  microframes_leave : (marks : List PhraseMark) (count : ℕ) → is_steady (microframes marks count r).world.history ≡ true
       → LeavesGood (running (microframes marks count r).world) (microframes marks count r).lines
   microframes_leave marks count steady =
       let stays = stay_steady marks count r band steady in
@@ -152,22 +152,22 @@ module _ (r : RunningWorld) (band : RunInBand r) (sound : IsSoundRun r) where
   running_keeps (append_line number samples) =
       unless_is KeepsGood no_step _ 6 (framed r number samples)
       (unless_is KeepsGood no_step _ 7 (appended r number samples) (λ h.
-      silent _ ((calls_keep_bands r band).samples (size_of number) samples) ((calls_keep_sound r sound).samples (size_of number) samples)))
-  running_keeps (track_line number voice) =
-      unless_is KeepsGood no_step _ 6 (tracked r number voice) (λ h.
-      silent _ ((calls_keep_bands r band).track (size_of number) (tone_of voice))
-      ((calls_keep_sound r sound).track (size_of number) (tone_of voice)))
-  running_keeps (jack_line terminal voice) =
-      unless_is KeepsGood no_step _ 6 (toned r terminal voice) (λ h.
-      silent _ ((calls_keep_bands r band).tone (size_of terminal) (tone_of voice))
-      ((calls_keep_sound r sound).tone (size_of terminal) (tone_of voice)))
+      silent _ ((calls_keep_bands r band).samples (natural_of_int number) samples) ((calls_keep_sound r sound).samples (natural_of_int number) samples)))
+  running_keeps (track_line number tone) =
+      unless_is KeepsGood no_step _ 6 (tracked r number tone) (λ h.
+      silent _ ((calls_keep_bands r band).track (natural_of_int number) (tone_of tone))
+      ((calls_keep_sound r sound).track (natural_of_int number) (tone_of tone)))
+  running_keeps (jack_line terminal tone) =
+      unless_is KeepsGood no_step _ 6 (toned r terminal tone) (λ h.
+      silent _ ((calls_keep_bands r band).tone (natural_of_int terminal) (tone_of tone))
+      ((calls_keep_sound r sound).tone (natural_of_int terminal) (tone_of tone)))
   running_keeps (deviate_line clock ppm) =
       unless_is KeepsGood no_step _ 6 (off r clock ppm) (λ h.
-      let slight = ((calls_look_back r).deviation (size_of clock) ppm h).0 in
-      silent _ ((calls_keep_bands r band).deviation (size_of clock) ppm slight)
-      ((calls_keep_sound r sound).deviation (size_of clock) ppm slight))
+      let slight = ((calls_look_back r).deviation (natural_of_int clock) ppm h).0 in
+      silent _ ((calls_keep_bands r band).deviation (natural_of_int clock) ppm slight)
+      ((calls_keep_sound r sound).deviation (natural_of_int clock) ppm slight))
   running_keeps (microframes_line count marks) =
-      unless_is KeepsGood no_step _ 6 (gone_on r count marks) (microframes_leave marks (size_of count))
+      unless_is KeepsGood no_step _ 6 (gone_on r count marks) (microframes_leave marks (natural_of_int count))
   running_keeps (detail_line level) =
-      λ h. silent _ ((calls_keep_bands r band).detail (size_of level)) ((calls_keep_sound r sound).detail (size_of level))
+      λ h. silent _ ((calls_keep_bands r band).detail (natural_of_int level)) ((calls_keep_sound r sound).detail (natural_of_int level))
   running_keeps report_line = λ h. record { good = (band, sound); quiet = report_quiet r }

@@ -4,10 +4,10 @@ use Rattle.uac_rate.specs.Steadiness.{is_steady}
 use Rattle.uac_request.specs.Requests.{setup_of}
 use Rattle.uac_mixer.specs.MixerElements.{fits_element}
 use Rattle.uac_mixer.specs.declared.element.Element.{Element}
-use Rattle.uac_script.specs.Phrase.{SaidMark, Phrase, SaidTone, nothing_line, bytes_line, go_line, control_line, get_line, set_line, show_line, break_line, append_line, track_line, jack_line, deviate_line, microframes_line, detail_line, report_line}
+use Rattle.uac_script.specs.Phrase.{PhraseMark, Phrase, PhraseTone, nothing_line, bytes_line, go_line, control_line, get_line, set_line, show_line, break_line, append_line, track_line, jack_line, deviate_line, microframes_line, detail_line, report_line}
 use Rattle.uac_units.specs.Hearing.{Reading}
-use Rattle.uac_running.specs.RunningWorld.{RunningWorld, with_detail, with_deviation, with_samples_on, with_tone, with_track}
-use Rattle.uac_running.specs.RunningNames.{are_frames, size_of}
+use Rattle.uac_running.specs.RunningWorld.{RunningWorld, with_detail, with_deviation, with_samples_on, with_jack_tone, with_track}
+use Rattle.uac_running.specs.RunningNames.{are_frames, natural_of_int}
 use Rattle.uac_running.specs.Events.{microframe, microframes}
 use Rattle.uac_running.specs.RunningTransfers.{element_named, read_element, set_element, show_element, transfer, with_break}
 use Rattle.uac_bus.specs.declared.fault.BusFault.{BusFault}
@@ -40,22 +40,22 @@ module _ (r : RunningWorld) where
   shown x = step_telling (show_element x r)
 
   abbrev pub appended : ℤ → List ℤ → Step
-  appended number samples = silently (running (with_samples_on (size_of number) samples r))
+  appended number samples = silently (running (with_samples_on (natural_of_int number) samples r))
 
   abbrev pub framed : ℤ → List ℤ → Step
-  framed number samples = unless (are_frames r.device.function (size_of number) (length samples)) 7 (appended number samples)
+  framed number samples = unless (are_frames r.device.function (natural_of_int number) (length samples)) 7 (appended number samples)
 
-  abbrev pub tracked : ℤ → SaidTone → Step
-  tracked number voice = silently (running (with_track (size_of number) (tone_of voice) r))
+  abbrev pub tracked : ℤ → PhraseTone → Step
+  tracked number tone = silently (running (with_track (natural_of_int number) (tone_of tone) r))
 
-  abbrev pub toned : ℤ → SaidTone → Step
-  toned terminal voice = silently (running (with_tone (size_of terminal) (tone_of voice) r))
+  abbrev pub toned : ℤ → PhraseTone → Step
+  toned terminal tone = silently (running (with_jack_tone (natural_of_int terminal) (tone_of tone) r))
 
   abbrev pub off : ℤ → ℤ → Step
-  off clock ppm = silently (running (with_deviation (size_of clock) ppm r))
+  off clock ppm = silently (running (with_deviation (natural_of_int clock) ppm r))
 
-  abbrev pub gone_on : ℤ → List SaidMark → Step
-  gone_on count marks = step_telling (microframes marks (size_of count) r)
+  abbrev pub gone_on : ℤ → List PhraseMark → Step
+  gone_on count marks = step_telling (microframes marks (natural_of_int count) r)
 
 -- ---- looking back
 
@@ -64,7 +64,7 @@ abbrev pub WasSteady : BusWorld → Step → Type 0
 WasSteady w (done next lines) = is_steady_in next ≡ true → is_steady_in w ≡ true
 WasSteady w (refused fault) = Unit {0}
 
-pub microframes_before : (marks : List SaidMark) (count : ℕ) (r : RunningWorld) → is_steady (microframes marks count r).world.history ≡ true
+pub microframes_before : (marks : List PhraseMark) (count : ℕ) (r : RunningWorld) → is_steady (microframes marks count r).world.history ≡ true
     → is_steady r.history ≡ true
 unfolding microframes
 microframes_before marks zero r h = h
@@ -78,7 +78,7 @@ module _ (r : RunningWorld) where
   no_step fault = tt
 
   pub running_looks_back : (phrase : Phrase) → Back (step_running r phrase)
-  unfolding transfer read_element set_element show_element with_break with_samples_on with_track with_tone with_detail
+  unfolding transfer read_element set_element show_element with_break with_samples_on with_track with_jack_tone with_detail
   running_looks_back nothing_line = λ h. h
   running_looks_back (bytes_line more) = tt
   running_looks_back go_line = tt
@@ -94,10 +94,10 @@ module _ (r : RunningWorld) where
   running_looks_back (append_line number samples) =
       unless_is Back no_step _ 6 (framed r number samples)
       (unless_is Back no_step _ 7 (appended r number samples) (λ h. h))
-  running_looks_back (track_line number voice) = unless_is Back no_step _ 6 (tracked r number voice) (λ h. h)
-  running_looks_back (jack_line terminal voice) = unless_is Back no_step _ 6 (toned r terminal voice) (λ h. h)
+  running_looks_back (track_line number tone) = unless_is Back no_step _ 6 (tracked r number tone) (λ h. h)
+  running_looks_back (jack_line terminal tone) = unless_is Back no_step _ 6 (toned r terminal tone) (λ h. h)
   running_looks_back (deviate_line clock ppm) =
-      unless_is Back no_step _ 6 (off r clock ppm) (λ h. ((calls_look_back r).deviation (size_of clock) ppm h).1)
+      unless_is Back no_step _ 6 (off r clock ppm) (λ h. ((calls_look_back r).deviation (natural_of_int clock) ppm h).1)
   running_looks_back (microframes_line count marks) = unless_is Back no_step _ 6 (gone_on r count marks) (microframes_before marks _ r)
   running_looks_back (detail_line level) = λ h. h
   running_looks_back report_line = λ h. h

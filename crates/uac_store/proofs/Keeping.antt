@@ -8,7 +8,7 @@ use Rattle.uac_entities.specs.declared.entity.Entity.{Entity}
 use Rattle.uac_store.specs.declared.keys.Key.{Key}
 use Rattle.uac_store.specs.Keyed.{key_of, same_key, value_of}
 use Rattle.uac_store.specs.ControlTable.{selectors_of}
-use Rattle.uac_store.specs.StoreControls.{start_of, count_of, first_channels, channels_at, controls_of}
+use Rattle.uac_store.specs.StoreControls.{start_of, count_of, first_channels, channel_controls, controls_of}
 
 -- keys that differ in a part
 other_entity : (k l : Key) → (k.entity ≡ l.entity → ⊥) → same_key k l ≡ false
@@ -100,31 +100,31 @@ module _ (all : List Entity) (e : Entity) (k : Key) where
 
   -- the controls of one entity
   pub controls_miss_entity : (k.entity ≡ e.id → ⊥) → value_of (controls_of all e) k ≡ None
-  unfolding controls_of channels_at
-  controls_miss_entity h = none_of_each (channels_at all e) k (range_with_len 1 (selectors_of e.kind)) (λ s. channels_miss_entity s (count_of all e) h)
+  unfolding controls_of channel_controls
+  controls_miss_entity h = none_of_each (channel_controls all e) k (range_with_len 1 (selectors_of e.kind)) (λ s. channels_miss_entity s (count_of all e) h)
 
   pub controls_miss_channel : count_of all e ≤ k.channel → value_of (controls_of all e) k ≡ None
-  unfolding controls_of channels_at
-  controls_miss_channel h = none_of_each (channels_at all e) k (range_with_len 1 (selectors_of e.kind)) (λ s. channels_miss_channel s (count_of all e) h)
+  unfolding controls_of channel_controls
+  controls_miss_channel h = none_of_each (channel_controls all e) k (range_with_len 1 (selectors_of e.kind)) (λ s. channels_miss_channel s (count_of all e) h)
 
-  pub selectors_miss : (a m : ℕ) → ((s : ℕ) → a ≤ s → s < a + m → k.selector ≡ s → ⊥) → value_of (flat_map (channels_at all e) (range_with_len a m)) k ≡ None
-  unfolding channels_at value_of
+  pub selectors_miss : (a m : ℕ) → ((s : ℕ) → a ≤ s → s < a + m → k.selector ≡ s → ⊥) → value_of (flat_map (channel_controls all e) (range_with_len a m)) k ≡ None
+  unfolding channel_controls value_of
   selectors_miss a zero h = refl
   selectors_miss a (suc m) h =
-      none_of_both (channels_at all e a) (flat_map (channels_at all e) (range_with_len (a + 1) m)) k
+      none_of_both (channel_controls all e a) (flat_map (channel_controls all e) (range_with_len (a + 1) m)) k
       (channels_miss_selector a (count_of all e) (h a (omega arith) (omega arith)))
       (selectors_miss (a + 1) m (λ s lo hi. h s (omega arith) (omega arith)))
 
   pub selectors_have : (a m : ℕ) → k.entity ≡ e.id → a ≤ k.selector → k.selector < a + m → k.channel < count_of all e
-      → value_of (flat_map (channels_at all e) (range_with_len a m)) k ≡ Some (start_of all e k.selector k.channel)
-  unfolding channels_at
+      → value_of (flat_map (channel_controls all e) (range_with_len a m)) k ≡ Some (start_of all e k.selector k.channel)
+  unfolding channel_controls
   selectors_have a zero i lo hi h = absurd (omega arith)
-  selectors_have a (suc m) i lo hi h = value_of-append (channels_at all e a) rest k ∙ from (k.selector == a) refl (λ away. selectors_have (a + 1) m i (omega arith) (omega arith) h) where
+  selectors_have a (suc m) i lo hi h = value_of-append (channel_controls all e a) rest k ∙ from (k.selector == a) refl (λ away. selectors_have (a + 1) m i (omega arith) (omega arith) h) where
     rest : List (Key × ℤ)
-    rest = flat_map (channels_at all e) (range_with_len (a + 1) m)
+    rest = flat_map (channel_controls all e) (range_with_len (a + 1) m)
 
     from : (b : Bool) → (k.selector == a) ≡ b → ((k.selector ≡ a → ⊥) → value_of rest k ≡ Some (start_of all e k.selector k.channel))
-        → option_or (value_of (channels_at all e a) k) (value_of rest k) ≡ Some (start_of all e k.selector k.channel)
+        → option_or (value_of (channel_controls all e a) k) (value_of rest k) ≡ Some (start_of all e k.selector k.channel)
     from true here others = ap (λ o. option_or o (value_of rest k)) (channels_have a (count_of all e) i (eqb-true k.selector a here) h)
     from false other others =
         let away = eqb-false k.selector a other in

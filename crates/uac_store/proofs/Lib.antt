@@ -1,10 +1,10 @@
 pub mod Initial
 pub mod Keeping
 pub mod Setting
-pub mod Settling
+pub mod RatesWalkLemmas
 pub mod Small
 pub mod Soundness
 pub mod Starting
-pub mod Steps
+pub mod RatesStepLemmas
 pub mod ControlTableLemmas
 mod Worked

@@ -26,7 +26,7 @@ use Rattle.uac_store.specs.StoreControls.{pins_of, IsKeyed}
 use Rattle.uac_store.specs.Rates.{IsClockTree}
 use Rattle.uac_topology.proofs.Clustered.{with_own_clusters-at, length-with_own_clusters, same_place, seen_alike}
 use Rattle.uac_topology.proofs.SoundRules.{KeepsRules, rules_hold}
-use Rattle.uac_store.proofs.Settling.{none_passes}
+use Rattle.uac_store.proofs.RatesWalkLemmas.{none_passes}
 
 no_cluster_past : (n : ℕ) (es : List Entity) (p : ℕ) → length es ≤ p → cluster_within n es p ≡ no_cluster
 unfolding cluster_within cluster_step at

@@ -11,7 +11,7 @@ use Rattle.uac_store.specs.declared.keys.Key.{Key}
 use Rattle.uac_store.specs.Keyed.{key_of, same_key, value_of}
 use Rattle.uac_store.specs.ControlTable.{count_by, selectors_of, start_by}
 use Rattle.uac_entities.specs.EntityInterfaces.{channels_of}
-use Rattle.uac_store.specs.StoreControls.{pins_of, node_start, start_of, count_of, first_channels, channels_at, controls_of, initial_controls}
+use Rattle.uac_store.specs.StoreControls.{pins_of, node_start, start_of, count_of, first_channels, channel_controls, controls_of, initial_controls}
 use Rattle.uac_store.proofs.Keeping.{none_of_both, channels_miss_channel, selectors_miss, entities_miss}
 
 -- the channels of the next pin are among those of all
@@ -53,25 +53,25 @@ module _ (all : List Entity) (e : Entity) (before : List (Key × ℤ)) where
       ∙ ap (λ xs. before ++ xs) (sym (map-range_with_len_more (λ c. (key_of e.id s c, start_of all e s c)) 0 n n (omega arith)))
 
   pub all_channels : (s n : ℕ) (m : List (Key × ℤ)) → n ≡ count_of all e
-      → m ≡ before ++ first_channels all e s n → m ≡ before ++ channels_at all e s
-  unfolding channels_at
+      → m ≡ before ++ first_channels all e s n → m ≡ before ++ channel_controls all e s
+  unfolding channel_controls
   all_channels s n m is_count now = now ∙ ap (λ c. before ++ first_channels all e s c) is_count
 
   -- the next selector has no control yet
   pub selector_absent : (below c : ℕ) (m : List (Key × ℤ))
       → ((s c : ℕ) → value_of before (key_of e.id s c) ≡ None)
-      → m ≡ before ++ flat_map (channels_at all e) (range_with_len 1 below)
+      → m ≡ before ++ flat_map (channel_controls all e) (range_with_len 1 below)
       → value_of m (key_of e.id (below + 1) c) ≡ None
   selector_absent below c m absent now =
       let k : Key = key_of e.id (below + 1) c in
       ap (λ es. value_of es k) now
-      ∙ none_of_both before (flat_map (channels_at all e) (range_with_len 1 below)) k (absent (below + 1) c)
+      ∙ none_of_both before (flat_map (channel_controls all e) (range_with_len 1 below)) k (absent (below + 1) c)
       (selectors_miss all e k 1 below (λ s lo hi is. omega arith))
 
   pub all_selectors : (n : ℕ) (m : List (Key × ℤ)) → n ≡ selectors_of e.kind
-      → m ≡ before ++ flat_map (channels_at all e) (range_with_len 1 n) → m ≡ before ++ controls_of all e
+      → m ≡ before ++ flat_map (channel_controls all e) (range_with_len 1 n) → m ≡ before ++ controls_of all e
   unfolding controls_of
-  all_selectors n m is now = now ∙ ap (λ c. before ++ flat_map (channels_at all e) (range_with_len 1 c)) is
+  all_selectors n m is now = now ∙ ap (λ c. before ++ flat_map (channel_controls all e) (range_with_len 1 c)) is
 
 -- an id differs from those of the entities before it
 earlier_apart : (es : List Entity) (i : ℕ) (d : Entity) → IsDistinct nat_eq (map (λ e. e.id) es) → i < length es

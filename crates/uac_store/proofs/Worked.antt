@@ -13,7 +13,7 @@ use Rattle.uac_store.specs.declared.keys.Key.{Key}
 use Rattle.uac_store.specs.declared.keys.Range.{Range}
 use Rattle.uac_store.specs.ControlTable.{facts_of, keeps_value, ranges_as, selectors_of}
 use Rattle.uac_store.specs.Keyed.{key_of, value_of, with_value}
-use Rattle.uac_store.specs.StoreControls.{pins_of, count_of, node_start, start_of, first_channels, channels_at, controls_of, initial_controls, has_on, has_control, takes_on, takes}
+use Rattle.uac_store.specs.StoreControls.{pins_of, count_of, node_start, start_of, first_channels, channel_controls, controls_of, initial_controls, has_on, has_control, takes_on, takes}
 use Rattle.uac_store.specs.Rates.{source_rate, chosen_source, multiplier_rate, rate_step, rate_within, rate_of}
 use Rattle.uac_store.specs.StoreValues.{ranges_of, are_clocked, is_legal}
 
@@ -77,7 +77,7 @@ kept : initial_controls headset
     ∷ (key_of 8 1 3, closed) ∷ (key_of 8 1 4, pos 0) ∷ (key_of 8 1 5, closed)
     ∷ (key_of 8 1 6, pos 0) ∷ (key_of 8 1 7, closed) ∷ (key_of 8 1 8, closed)
     ∷ []
-unfolding headset initial_controls controls_of channels_at first_channels count_of start_of node_start pins_of channels_of entity_by_id
+unfolding headset initial_controls controls_of channel_controls first_channels count_of start_of node_start pins_of channels_of entity_by_id
 kept = refl
 
 -- there is a volume of the second channel, and none of a third; it takes a half decibel and 12 decibels, and no quarter

@@ -43,12 +43,12 @@ first_channels entities e selector n =
     map (λ channel. (key_of e.id selector channel, start_of entities e selector channel)) (range_with_len 0 n)
 
 -- one control of an entity at the start, on all its channels
-unfoldable pub channels_at : List Entity → Entity → ℕ → List (Key × ℤ)
-channels_at entities e selector = first_channels entities e selector (count_of entities e)
+unfoldable pub channel_controls : List Entity → Entity → ℕ → List (Key × ℤ)
+channel_controls entities e selector = first_channels entities e selector (count_of entities e)
 
 -- the controls of an entity at the start, by selector, then by channel
 unfoldable pub controls_of : List Entity → Entity → List (Key × ℤ)
-controls_of entities e = flat_map (channels_at entities e) (range_with_len 1 (selectors_of e.kind))
+controls_of entities e = flat_map (channel_controls entities e) (range_with_len 1 (selectors_of e.kind))
 
 -- the controls' values at the start, in block order
 unfoldable pub initial_controls : List Entity → List (Key × ℤ)

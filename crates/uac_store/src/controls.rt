@@ -72,7 +72,7 @@ const SWITCH: Facts = Facts {
 };
 
 /// A control that the descriptor tells, of one byte.
-const TOLD: Facts = Facts {
+const DECLARED: Facts = Facts {
     width: 1,
     signed: false,
     kept: false,
@@ -106,8 +106,11 @@ pub fn facts_of(control: Control) -> Facts
             ..RANGED
         },
         Control::Mute | Control::Enable => SWITCH,
-        Control::ClockValid => TOLD,
-        Control::Connector => Facts { width: 6, ..TOLD },
+        Control::ClockValid => DECLARED,
+        Control::Connector => Facts {
+            width: 6,
+            ..DECLARED
+        },
     }
 }
 

@@ -17,14 +17,14 @@ pub fn each_control_has_its_start_value()
 {}
 
 /// Steps past the longest walk change no rate.
-#[tactic(auto, using(crate::proofs::Settling::settles))]
+#[tactic(auto, using(crate::proofs::RatesWalkLemmas::settles))]
 pub fn more_steps_change_no_rate()
     ensures { (entities : List Entity) (controls : List (Key × ℤ)) (id n more : ℕ) → EndsWithin n entities id
         → rate_within (n + more) entities controls id ≡ rate_within n entities controls id }
 {}
 
 /// Where no clock feeds itself, each clock's rate is what it makes of its sources' rates.
-#[tactic(auto, using(crate::proofs::Settling::follows))]
+#[tactic(auto, using(crate::proofs::RatesWalkLemmas::follows))]
 pub fn each_rate_follows_its_sources()
     ensures { (entities : List Entity) (controls : List (Key × ℤ)) (id : ℕ) → IsClockTree entities
         → rate_of entities controls id ≡ rate_step entities controls (rate_of entities controls) id }

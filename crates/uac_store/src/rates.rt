@@ -15,7 +15,7 @@ use uac_clock::RATES;
 use uac_topology::{Entity, EntityKind, Function};
 
 /// The rate of the clock entity with an id, along at most so many entities.
-#[tactic(auto, unfolding(crate::specs::Rates::rate_step), using(crate::proofs::Steps::rate_within_none, crate::proofs::Steps::rate_within_more))]
+#[tactic(auto, unfolding(crate::specs::Rates::rate_step), using(crate::proofs::RatesStepLemmas::rate_within_none, crate::proofs::RatesStepLemmas::rate_within_more))]
 pub(crate) fn rate_within(
     steps: usize,
     function: &Function,

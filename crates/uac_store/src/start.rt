@@ -5,7 +5,7 @@ ghost use Rattle.uac_store.specs.declared.controls.Control.TheVariants as contro
 ghost use Rattle.uac_store.specs.ControlTable as table;
 ghost use Rattle.uac_store.specs.StoreControls as spec;
 ghost use Rattle.uac_store.specs.ControlTable.{IsSmall};
-ghost use Rattle.uac_store.specs.StoreControls.{IsKeyed, initial_controls, controls_of, channels_at};
+ghost use Rattle.uac_store.specs.StoreControls.{IsKeyed, initial_controls, controls_of, channel_controls};
 
 use crate::controls::{Control, control_of, count_of, selectors_of};
 use crate::keys::Key;
@@ -61,7 +61,7 @@ fn add_channels(
     requires pins { pins.now ≡ spec.pins_of function.now.entities entity.now }
     requires small { IsSmall entity.now.kind (sum pins.now) entity.now.cluster.channels }
     requires absent { (channel : ℕ) → value_of values.old.entries (key_of entity.now.id selector channel) ≡ None }
-    ensures { OnOk result (values.new.entries ≡ values.old.entries ++ channels_at function.now.entities entity.now selector) }
+    ensures { OnOk result (values.new.entries ≡ values.old.entries ++ channel_controls function.now.entities entity.now selector) }
 {
     for channel in 0..count_of(function, entity) {
         let key = Key {

@@ -11,7 +11,7 @@ use Rattle.uac_topology.specs.FunctionKept.{AreNumbered}
 use Rattle.uac_topology_rules.proofs.Found.{position_is, position_none}
 use Rattle.std.proofs.lemmas.Option.{slice_get-get_or}
 use Rattle.uac_transcript.specs.declared.report.StreamCounts.{StreamCounts}
-use Rattle.uac_streaming.specs.StreamingWorld.{counted_at, met_in, nothing_met, place_of}
+use Rattle.uac_streaming.specs.StreamingWorld.{counted_at, met_in, nothing_met, stream_index}
 
 some_same : {A : Type 0} (x y : A) → Some x ≡ Some y → x ≡ y
 some_same x y e = cc
@@ -80,7 +80,7 @@ counts_kept interface met change same (s ∷ ss) =
 
 -- the counts of an interface, put in block order
 pub counts_put : (function : FunctionFields) (interface place : ℕ) (met : ℕ → StreamCounts) (counts : StreamCounts) (old : List StreamCounts) → AreNumbered function
-    → place_of function interface ≡ Some place → old ≡ met_in met function → set old place counts ≡ met_in (counted_at interface (λ c. counts) met) function
+    → stream_index function interface ≡ Some place → old ≡ met_in met function → set old place counts ≡ met_in (counted_at interface (λ c. counts) met) function
 counts_put function interface place met counts old numbered there is =
     let at = (position_is (λ (s : StreamInterface). s.number == interface) function.streams place there).1 in
     ap (λ (cs : List StreamCounts). set cs place counts) is
@@ -90,7 +90,7 @@ counts_put function interface place met counts old numbered there is =
 
 -- what the counts of an interface are, at its place
 pub counts_met : (function : FunctionFields) (interface place at : ℕ) (met : ℕ → StreamCounts) (counts : List StreamCounts) (c : StreamCounts)
-    → counts ≡ met_in met function → Some at ≡ place_of function interface → place_of function interface ≡ Some place
+    → counts ≡ met_in met function → Some at ≡ stream_index function interface → stream_index function interface ≡ Some place
     → (at < length counts → slice_get counts at ≡ Some c) → c ≡ met interface
 counts_met function interface place at met counts c is here there read =
     let found = position-Some (λ (s : StreamInterface). s.number == interface) function.streams at no_stream (sym here) in
@@ -107,13 +107,13 @@ counts_met function interface place at met counts c is here there read =
 
 -- the place of an interface is one of theirs
 pub place_below : (function : FunctionFields) (interface place : ℕ) (met : ℕ → StreamCounts) (counts : List StreamCounts)
-    → counts ≡ met_in met function → Some place ≡ place_of function interface → place < length counts
+    → counts ≡ met_in met function → Some place ≡ stream_index function interface → place < length counts
 place_below function interface place met counts is there =
     let found = position_is (λ (s : StreamInterface). s.number == interface) function.streams place (sym there) in
     omega (arith, ap length is, length-map function.streams (λ (s : StreamInterface). met s.number), found.0)
 
 -- where there is no such interface, all stay
-pub counts_stay : (function : FunctionFields) (interface : ℕ) (met : ℕ → StreamCounts) (change : StreamCounts → StreamCounts) → place_of function interface ≡ None
+pub counts_stay : (function : FunctionFields) (interface : ℕ) (met : ℕ → StreamCounts) (change : StreamCounts → StreamCounts) → stream_index function interface ≡ None
     → met_in (counted_at interface change met) function ≡ met_in met function
 counts_stay function interface met change none =
     nowhere interface (λ s. met s.number) (λ s. change (met s.number)) function.streams
@@ -121,9 +121,9 @@ counts_stay function interface met change none =
 
 -- counts that are the change of those of the interface, where there is one
 pub counts_changed : (function : FunctionFields) (interface : ℕ) (met : ℕ → StreamCounts) (change : StreamCounts → StreamCounts) (counts : StreamCounts)
-    → ((place : ℕ) → place_of function interface ≡ Some place → counts ≡ change (met interface))
+    → ((place : ℕ) → stream_index function interface ≡ Some place → counts ≡ change (met interface))
     → met_in (counted_at interface (λ c. counts) met) function ≡ met_in (counted_at interface change met) function
-counts_changed function interface met change counts is = by (place_of function interface) refl where
-  by : (place : Option ℕ) → place_of function interface ≡ place → met_in (counted_at interface (λ c. counts) met) function ≡ met_in (counted_at interface change met) function
+counts_changed function interface met change counts is = by (stream_index function interface) refl where
+  by : (place : Option ℕ) → stream_index function interface ≡ place → met_in (counted_at interface (λ c. counts) met) function ≡ met_in (counted_at interface change met) function
   by None none = counts_stay function interface met (λ c. counts) none ∙ sym (counts_stay function interface met change none)
   by (Some place) there = change_there interface met change counts (is place there) function.streams

@@ -10,12 +10,12 @@ use Rattle.uac_alt.specs.AltStreams.{StreamFields, stream_fields}
 use Rattle.uac_alt.specs.declared.values.Stream.{Stream}
 use Rattle.uac_device.specs.DeviceKept as devices
 use Rattle.uac_host.specs.HostWorld.{HostWorld, Pace}
-use Rattle.uac_host.specs.Calls.{IsStreamOf, at_interface, with_stream}
+use Rattle.uac_host.specs.HostCalls.{IsStreamOf, at_interface, with_stream}
 use Rattle.uac_host.specs.HostKept as hosts
-use Rattle.uac_host.specs.declared.lanes.HostStream.{HostStream}
+use Rattle.uac_host.specs.declared.host_streams.HostStream.{HostStream}
 use Rattle.uac_host.proofs.StandsAfterCalls.{elsewhere, here}
 use Rattle.uac_host.proofs.SettingStreams.{carried_by}
-use Rattle.uac_streaming.specs.StreamingWorld.{StreamingWorld, after_following, given_at, place_of}
+use Rattle.uac_streaming.specs.StreamingWorld.{StreamingWorld, after_following, given_at, stream_index}
 use Rattle.uac_streaming.specs.StreamingKept.{StreamingFields, StreamingStands}
 
 eq_of : (m n : ℕ) → (m == n) ≡ true → m ≡ n
@@ -54,19 +54,19 @@ none_begun function interface (Some s) of none =
     let carried = carried_by function interface (stream_fields s) of in absurd (let f : None ≡ Some carried.0 = sym none ∙ carried.1 in cc)
 
 -- where there is no such interface, the host has nothing to stop
-pub no_lane : (lanes : List HostStream) (w : HostWorld) (interface : ℕ) → hosts.HostStands lanes w → interface_in w.function interface ≡ None
-    → hosts.HostStands lanes (with_stream interface None w)
+pub no_host_stream : (host_streams : List HostStream) (w : HostWorld) (interface : ℕ) → hosts.HostStands host_streams w → interface_in w.function interface ≡ None
+    → hosts.HostStands host_streams (with_stream interface None w)
 unfolding with_stream
-no_lane lanes w interface stands none = record {
-  lanes = λ k.
+no_host_stream host_streams w interface stands none = record {
+  host_streams = λ k.
       elim (cases_eq k interface) [
         | inl same ↦
             (let nothing : interface_in w.function k ≡ None = ap (interface_in w.function) same ∙ none in
-            stands.lanes k ∙ ap (option_map (λ (s : StreamInterface). hosts.kept_lane w k)) nothing
-            ∙ sym (ap (option_map (λ (s : StreamInterface). hosts.kept_lane (with_stream interface None w) k)) nothing))
+            stands.host_streams k ∙ ap (option_map (λ (s : StreamInterface). hosts.kept_stream w k)) nothing
+            ∙ sym (ap (option_map (λ (s : StreamInterface). hosts.kept_stream (with_stream interface None w) k)) nothing))
         | inr other ↦
-            stands.lanes k
-            ∙ ap (λ (p : Option Pace). option_map (λ (s : StreamInterface). hosts.kept_lane (record w { paces = λ (n : ℕ). p }) k) (interface_in w.function k))
+            stands.host_streams k
+            ∙ ap (λ (p : Option Pace). option_map (λ (s : StreamInterface). hosts.kept_stream (record w { paces = λ (n : ℕ). p }) k) (interface_in w.function k))
             (sym (elsewhere interface None w.paces k other))
       ];
   whole = stands.whole;
@@ -98,15 +98,15 @@ followed_nowhere p d w function interface begun stands same of none =
     let nothing = none_found function interface none in
     subst (λ (o : Option StreamFields). StreamingStands p d (after_following interface o w)) (sym (none_begun function interface begun of nothing))
     (stopped p d w interface stands
-    (no_lane p.host w.host interface stands.host (ap (λ (f : FunctionFields). interface_in f interface) (stands.same ∙ same) ∙ nothing)))
+    (no_host_stream p.host w.host interface stands.host (ap (λ (f : FunctionFields). interface_in f interface) (stands.same ∙ same) ∙ nothing)))
 
 -- one that it has
 pub followed_so : (p : StreamingFields) (d : devices.DeviceFields) (w : StreamingWorld) (interface : ℕ) (begun : Option StreamFields) (b : Bool) → is_some begun ≡ b
-    → StreamingStands p d (record w { host = with_stream interface begun w.host; history = if b then given_at (place_of w.device.function interface) steadiness.with_restart_given w.history else w.history })
+    → StreamingStands p d (record w { host = with_stream interface begun w.host; history = if b then given_at (stream_index w.device.function interface) steadiness.with_restart_given w.history else w.history })
     → StreamingStands p d (after_following interface begun w)
 unfolding after_following
 followed_so p d w interface begun b is stands =
-    subst (λ (b : Bool). StreamingStands p d (record w { host = with_stream interface begun w.host; history = if b then given_at (place_of w.device.function interface) steadiness.with_restart_given w.history else w.history }))
+    subst (λ (b : Bool). StreamingStands p d (record w { host = with_stream interface begun w.host; history = if b then given_at (stream_index w.device.function interface) steadiness.with_restart_given w.history else w.history }))
     (sym is) stands
 
 pub seen_some : (begun : Option Stream) → is_some (option_map stream_fields begun) ≡ is_some begun

@@ -4,9 +4,9 @@ use Rattle.std.proofs.lemmas.Grind.{common_steps}
 use Rattle.std.proofs.lemmas.List.{drop_all, take_all, take_more_set}
 use Rattle.uac_entities.specs.declared.stream.StreamInterface.{StreamInterface}
 use Rattle.uac_transcript.specs.declared.report.StreamCounts.{StreamCounts}
-use Rattle.uac_lanes.specs.InterfaceStreams.{bits_of}
+use Rattle.uac_device_streams.specs.InterfaceStreams.{bits_of}
 use Rattle.uac_device.specs.DeviceWorld.{DeviceWorld, met_of}
-use Rattle.uac_lanes.specs.declared.ticking.Ticked.{Ticked}
+use Rattle.uac_device_streams.specs.declared.ticking.Ticked.{Ticked}
 use Rattle.uac_streaming.specs.StreamingWorld.{finds_empty, finds_full, found_counts, met_in, one_over, one_under}
 
 -- counts of a stream whose ring was found so

@@ -11,5 +11,5 @@ pub mod Quiet
 pub mod Ticking
 pub mod RoomLemmas
 pub mod RoomOfDevices
-pub mod RoomKept
+pub mod RoomKeptLemmas
 pub mod RoomTurns

@@ -10,10 +10,10 @@ use Rattle.uac_pcm.specs.Frames.{frame_of_bytes}
 use Rattle.uac_pcm.proofs.PacketsLemmas.{length-first_chunks}
 use Rattle.std.specs.Simd.{first_chunks}
 use Rattle.uac_host.specs.HostWorld.{HostWorld, Pace}
-use Rattle.uac_host.specs.Calls.{heard_in}
+use Rattle.uac_host.specs.HostCalls.{heard_in}
 use Rattle.uac_flow.specs.declared.arrival.Arrival.{Arrival}
 use Rattle.uac_flow.specs.declared.arrival.Arrival.TheVariants as arrivals
-use Rattle.uac_lanes.specs.InterfaceStreams.{bits_of}
+use Rattle.uac_device_streams.specs.InterfaceStreams.{bits_of}
 use Rattle.uac_transcript.specs.Transcript.{Said, says_out, says_over, spelling_of}
 use Rattle.uac_transcript.specs.Printing.{Prints, text_of}
 use Rattle.uac_transcript.proofs.PrintingLemmas.{Prints-after, Prints-line}

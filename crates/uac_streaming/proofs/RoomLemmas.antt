@@ -18,7 +18,7 @@ use Rattle.uac_store.specs.Rates.{rate_of}
 use Rattle.uac_flow.specs.Flows.{ZerosFit}
 use Rattle.uac_flow.specs.FlowStreams.{OutStream, after_packet, after_taking, after_ticks, frames_of, is_due, out_level, priming_level, settled_out, settled_when_due, takes_all, target_after, zeros_due}
 use Rattle.uac_device.specs.DeviceWorld.{DeviceWorld, Domain, next_ticks, step_in, steps_with_next}
-use Rattle.uac_device.specs.DeviceKept.{IsInRange}
+use Rattle.uac_device.specs.DeviceKept.{IsDeviationInRange}
 use Rattle.uac_device.proofs.Fastest.{nominal_most, rated_nominal}
 use Rattle.uac_streaming.specs.Room.{HasRoom}
 
@@ -263,14 +263,14 @@ settled_again o room = settled_room false o (opened false o room)
 -- ---- the ticks of a domain
 
 -- a clock in range gives few frames in a microframe
-step_most : (values : Nominal) (ppm : ℤ) → values.f ≤ 1572864 → IsInRange ppm → step_of values ppm ≤ 1730150
+step_most : (values : Nominal) (ppm : ℤ) → values.f ≤ 1572864 → IsDeviationInRange ppm → step_of values ppm ≤ 1730150
 step_most values (pos m) slow range =
     let small : m ≤ 100000 = omega (arith, ints) in
     let product : values.f * m ≤ 1572864 * 100000 = mul-le values.f m 1572864 100000 slow small in
     omega arith
 step_most values (negsuc m) slow range = omega arith
 
-steps_most : (rate : Option ℕ) (ppm : ℤ) → IsInRange ppm
+steps_most : (rate : Option ℕ) (ppm : ℤ) → IsDeviationInRange ppm
     → option_map_or (λ values. step_of values ppm) (option_and_then nominal_of rate) 0 ≤ 1730150
 steps_most rate ppm range = by (option_and_then nominal_of rate) refl
   where
@@ -286,18 +286,18 @@ last_few steps step most =
     omega (arith, whole, front, most)
 
 -- a domain ticks at most 27 times in a microframe
-pub next_few : (w : DeviceWorld) (clock : ℕ) → All (λ d. IsInRange d.deviation) w.domains → next_ticks clock w ≤ 27
+pub next_few : (w : DeviceWorld) (clock : ℕ) → All (λ d. IsDeviationInRange d.deviation) w.domains → next_ticks clock w ≤ 27
 unfolding next_ticks step_in
 next_few w clock range = among w.domains range
   where
-    among : (ds : List Domain) → All (λ d. IsInRange d.deviation) ds
+    among : (ds : List Domain) → All (λ d. IsDeviationInRange d.deviation) ds
         → option_map_or (λ d. ticks_in (steps_with_next w d)) (find (λ d. d.id == clock) ds) 0 ≤ 27
     among [] range = omega arith
-    among (d ∷ ds) range = by (d.id == clock) (among ds (All-tail (λ d. IsInRange d.deviation) d ds range))
+    among (d ∷ ds) range = by (d.id == clock) (among ds (All-tail (λ d. IsDeviationInRange d.deviation) d ds range))
       where
         by : (b : Bool) → option_map_or (λ d. ticks_in (steps_with_next w d)) (find (λ d. d.id == clock) ds) 0 ≤ 27
             → option_map_or (λ d. ticks_in (steps_with_next w d)) (cond b (Some d) (find (λ d. d.id == clock) ds)) 0 ≤ 27
         by true others =
             last_few d.steps (step_in w d)
-            (steps_most (rate_of w.function.entities w.controls d.id) d.deviation (All-head (λ d. IsInRange d.deviation) d ds range))
+            (steps_most (rate_of w.function.entities w.controls d.id) d.deviation (All-head (λ d. IsDeviationInRange d.deviation) d ds range))
         by false others = others

@@ -10,9 +10,9 @@ use Rattle.uac_topology.specs.Function.{FunctionFields}
 use Rattle.uac_graph.specs.Meaning.{entity}
 use Rattle.uac_flow.specs.Flows.{ZerosFit}
 use Rattle.uac_flow.specs.FlowStreams.{OutStream, after_packet, after_taking, after_ticks, is_due, settled_out}
-use Rattle.uac_lanes.specs.InterfaceStreams.{changed_at, changed_where, either_due}
+use Rattle.uac_device_streams.specs.InterfaceStreams.{changed_at, changed_where, either_due}
 use Rattle.uac_device.specs.DeviceWorld.{DeviceWorld, Domain, ZerosFitIn, after_advance, is_due_in, next_ticks, after_receiving, after_sending_packet, set_jack, after_settling, steps_with_next, after_tick}
-use Rattle.uac_device.specs.DeviceKept.{IsInRange}
+use Rattle.uac_device.specs.DeviceKept.{IsDeviationInRange}
 use Rattle.uac_streaming.specs.Room.{HasRoom, HaveRoom}
 use Rattle.uac_streaming.specs.StreamingWorld.{numbers}
 use Rattle.uac_streaming.proofs.RoomLemmas.{IsWithin, next_few, opened, packet_came, packet_keeps, settled_again, settled_room, tick_came, tick_keeps, ticks_came, zeros_fit}
@@ -123,7 +123,7 @@ pub record IsAmong (function : FunctionFields) (loses : ℕ → Bool) (ahead : L
 
 -- so it is for each of a device, and something is so of its function
 pub record AreWithin (about : FunctionFields → Type 0) (loses : ℕ → Bool) (ahead : List ℕ) (clock left : ℕ) (w : DeviceWorld) : Type 0 where
-  pub deviations : All (λ d. IsInRange d.deviation) w.domains
+  pub deviations : All (λ d. IsDeviationInRange d.deviation) w.domains
   pub apart : IsDistinct nat_eq w.function.domains
   pub function : about w.function
   pub streams : (k : ℕ) (o : OutStream) → w.outs k ≡ Some o → IsAmong w.function loses ahead clock left k o
@@ -205,14 +205,14 @@ unfolding set_jack
 jack_within about loses ahead clock left terminal frame w is = record { deviations = is.deviations; apart = is.apart; function = is.function; streams = is.streams }
 
 -- the deviations of domains of which some change, but not in that
-pub deviations_kept : (change : Domain → Domain) → ((d : Domain) → IsInRange d.deviation → IsInRange (change d).deviation)
+pub deviations_kept : (change : Domain → Domain) → ((d : Domain) → IsDeviationInRange d.deviation → IsDeviationInRange (change d).deviation)
     → (test : Domain → Bool) (ds : List Domain)
-    → All (λ d. IsInRange d.deviation) ds → All (λ d. IsInRange d.deviation) (map (λ d. if test d then change d else d) ds)
+    → All (λ d. IsDeviationInRange d.deviation) ds → All (λ d. IsDeviationInRange d.deviation) (map (λ d. if test d then change d else d) ds)
 deviations_kept change keeps test ds all =
-    All-map (λ d. IsInRange d.deviation) (λ d. if test d then change d else d) ds
-    (All-weaker (λ d. IsInRange d.deviation) (λ d. IsInRange (if test d then change d else d).deviation) (λ d range. by d (test d) range) ds all)
+    All-map (λ d. IsDeviationInRange d.deviation) (λ d. if test d then change d else d) ds
+    (All-weaker (λ d. IsDeviationInRange d.deviation) (λ d. IsDeviationInRange (if test d then change d else d).deviation) (λ d range. by d (test d) range) ds all)
   where
-    by : (d : Domain) (b : Bool) → IsInRange d.deviation → IsInRange (if b then change d else d).deviation
+    by : (d : Domain) (b : Bool) → IsDeviationInRange d.deviation → IsDeviationInRange (if b then change d else d).deviation
     by d true range = keeps d range
     by d false range = range
 
@@ -305,7 +305,7 @@ IsEnding loses ahead k o = HasRoom o ⊎ (Among k ahead × IsWithin (loses k) 0 
 
 -- so it is for each of a device, and something is so of its function
 pub record AreEnding (about : FunctionFields → Type 0) (loses : ℕ → Bool) (ahead : List ℕ) (w : DeviceWorld) : Type 0 where
-  pub deviations : All (λ d. IsInRange d.deviation) w.domains
+  pub deviations : All (λ d. IsDeviationInRange d.deviation) w.domains
   pub apart : IsDistinct nat_eq w.function.domains
   pub function : about w.function
   pub streams : (k : ℕ) (o : OutStream) → w.outs k ≡ Some o → IsEnding loses ahead k o

@@ -6,10 +6,10 @@ use Rattle.std.proofs.lemmas.Bool.{and_parts, true≢false}
 use Rattle.uac_entities.specs.declared.stream.StreamInterface.{StreamInterface}
 use Rattle.uac_topology.specs.Function.{FunctionFields}
 use Rattle.uac_device.specs.DeviceWorld.{DeviceWorld, feedback_in, is_due_in}
-use Rattle.uac_host.specs.Calls.{packet_of}
-use Rattle.uac_script.specs.Phrase.{SaidMark}
-use Rattle.uac_streaming.specs.Telling.{Telling, at_rest, in_turn}
-use Rattle.uac_streaming.specs.StreamingWorld.{StreamingWorld, all_reported, all_settled, fetched_lines, goes_out, in_packet_turn, in_packets, is_in_due, is_out_due, loses_in, loses_out, loses_report, numbers, out_packets, out_turn, packet_fetched, packet_sent, report_lines, report_made, report_turn, sent_lines, settled_turn}
+use Rattle.uac_host.specs.HostCalls.{packet_of}
+use Rattle.uac_script.specs.Phrase.{PhraseMark}
+use Rattle.uac_streaming.specs.Telling.{Telling, without_event, in_turn}
+use Rattle.uac_streaming.specs.StreamingWorld.{StreamingWorld, all_reported, all_settled, fetched_lines, goes_out, in_packet_turn, in_packets, is_in_due, is_out_due, loses_in, loses_out, loses_report, numbers, out_packets, out_turn, packet_fetched, packet_sent, feedback_lines, report_made, report_turn, sent_lines, settled_turn}
 use Rattle.uac_streaming.specs.Room.{HaveRoom}
 use Rattle.uac_streaming.proofs.RoomOfDevices.{AreEnding, AreWithin, HaveSmallNumbers, all_ended, all_ending, received_within, sent_within, settled_ending}
 
@@ -28,7 +28,7 @@ known_out : (function : FunctionFields) (interface : ℕ) → goes_out function 
 known_out function interface out none =
     true≢false (sym out ∙ ap (λ (o : Option StreamInterface). option_map_or (λ s. s.out) o false) none)
 
-module _ (about : FunctionFields → Type 0) (detail : ℕ) (marks : List SaidMark) (ahead : List ℕ) (clock : ℕ) where
+module _ (about : FunctionFields → Type 0) (detail : ℕ) (marks : List PhraseMark) (ahead : List ℕ) (clock : ℕ) where
   abbrev Holds : StreamingWorld → Type 0
   Holds w = AreWithin about (loses_out marks) ahead clock 0 w.device
 
@@ -38,7 +38,7 @@ module _ (about : FunctionFields → Type 0) (detail : ℕ) (marks : List SaidMa
     where
       by : (b : Bool) → is_out_due w interface ≡ b
           → Holds (if b then record { lines = sent_lines detail (loses_out marks interface) interface w; world = packet_sent (loses_out marks interface) interface w }
-          else at_rest w).world
+          else without_event w).world
       by true due =
           let both = and_parts (goes_out w.device.function interface) (is_due_in w.device interface) due in
           received_within about (loses_out marks) ahead clock interface (packet_of w.host interface) w.device
@@ -55,7 +55,7 @@ module _ (about : FunctionFields → Type 0) (detail : ℕ) (marks : List SaidMa
     where
       by : (b : Bool)
           → Holds (if b then record { lines = fetched_lines detail (loses_in marks interface) interface w; world = packet_fetched (loses_in marks interface) interface w }
-          else at_rest w).world
+          else without_event w).world
       by true = sent_within about (loses_out marks) ahead clock 0 interface w.device is
       by false = is
 
@@ -88,18 +88,18 @@ all_settled_room about detail loses clock w small is =
 
 -- ---- the reports
 
-report_turn_keeps : (P : DeviceWorld → Type 0) (detail : ℕ) (marks : List SaidMark) (interface : ℕ) (w : StreamingWorld) → P w.device
+report_turn_keeps : (P : DeviceWorld → Type 0) (detail : ℕ) (marks : List PhraseMark) (interface : ℕ) (w : StreamingWorld) → P w.device
     → P (report_turn detail marks interface w).world.device
 unfolding report_turn report_made
 report_turn_keeps P detail marks interface w is = by (feedback_in w.device interface)
   where
     by : (o : Option ℕ)
-        → P (option_map_or (λ value. record { lines = report_lines detail (loses_report marks interface) value interface; world = report_made (loses_report marks interface) value interface w })
-        o (at_rest w)).world.device
+        → P (option_map_or (λ value. record { lines = feedback_lines detail (loses_report marks interface) value interface; world = report_made (loses_report marks interface) value interface w })
+        o (without_event w)).world.device
     by None = is
     by (Some value) = is
 
-pub all_reported_keeps : (P : DeviceWorld → Type 0) (detail : ℕ) (marks : List SaidMark) (w : StreamingWorld) → P w.device
+pub all_reported_keeps : (P : DeviceWorld → Type 0) (detail : ℕ) (marks : List PhraseMark) (w : StreamingWorld) → P w.device
     → P (all_reported detail marks w).world.device
 unfolding all_reported
 all_reported_keeps P detail marks w is =

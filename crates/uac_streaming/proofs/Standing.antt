@@ -6,21 +6,21 @@ use Rattle.uac_device.specs.DeviceKept as devices
 use Rattle.uac_device.specs.DeviceWorld.{DeviceWorld, fresh}
 use Rattle.uac_host.specs.HostKept as hosts
 use Rattle.uac_host.specs.HostWorld.{HostWorld, fresh_host}
-use Rattle.uac_host.specs.Calls.{packet_of}
-use Rattle.uac_host.specs.declared.lanes.HostStream.{HostStream}
+use Rattle.uac_host.specs.HostCalls.{packet_of}
+use Rattle.uac_host.specs.declared.host_streams.HostStream.{HostStream}
 use Rattle.uac_transcript.specs.declared.report.StreamCounts.{StreamCounts}
-use Rattle.uac_streaming.specs.StreamingWorld.{StreamingWorld, comes_in, counted_at, given_at, goes_out, met_in, nothing_met, numbers, numbers_in, numbers_out, packet_to, place_of, streaming_start}
+use Rattle.uac_streaming.specs.StreamingWorld.{StreamingWorld, comes_in, counted_at, given_at, goes_out, met_in, nothing_met, numbers, numbers_in, numbers_out, packet_to, stream_index, streaming_start}
 use Rattle.uac_streaming.specs.StreamingKept.{StreamingFields, StreamingStands}
 use Rattle.uac_streaming.proofs.Counted.{counts_changed, counts_kept}
 
 -- at the start
-pub stands_start : (function : FunctionFields) (d : devices.DeviceFields) (lanes : List HostStream) (order outs ins to_device from_device : List ℕ) (met : List StreamCounts) (steady : steadiness.SteadyFields)
-    → devices.DeviceStands d (fresh function) → hosts.HostStands lanes (fresh_host function) → order ≡ numbers function → outs ≡ filter (goes_out function) order → ins ≡ filter (comes_in function) order
+pub stands_start : (function : FunctionFields) (d : devices.DeviceFields) (host_streams : List HostStream) (order outs ins to_device from_device : List ℕ) (met : List StreamCounts) (steady : steadiness.SteadyFields)
+    → devices.DeviceStands d (fresh function) → hosts.HostStands host_streams (fresh_host function) → order ≡ numbers function → outs ≡ filter (goes_out function) order → ins ≡ filter (comes_in function) order
     → met ≡ met_in (λ interface. nothing_met) function
     → steadiness.SteadyStands steady steadiness.nothing_given
-    → StreamingStands (record { host = lanes; order = order; outs = outs; ins = ins; met = met; steady = steady; sent_packet = to_device; fetched_packet = from_device }) d (streaming_start function)
+    → StreamingStands (record { host = host_streams; order = order; outs = outs; ins = ins; met = met; steady = steady; sent_packet = to_device; fetched_packet = from_device }) d (streaming_start function)
 unfolding streaming_start fresh fresh_host
-stands_start function d lanes order outs ins to_device from_device met steady of_device of_host ordered to from counts given = record {
+stands_start function d host_streams order outs ins to_device from_device met steady of_device of_host ordered to from counts given = record {
   device = of_device;
   host = of_host;
   same = refl;
@@ -39,9 +39,9 @@ packet_is false interface w items is = ap (λ (b : List ℕ). Some b) is
 
 module _ (p : StreamingFields) (d : devices.DeviceFields) (w : StreamingWorld) (stands : StreamingStands p d w) where
   -- the host alone changes
-  pub hosted : (lanes : List HostStream) (after : HostWorld) → hosts.HostStands lanes after → after.function ≡ w.host.function
-      → StreamingStands (record p { host = lanes }) d (record w { host = after })
-  hosted lanes after of_host same = record {
+  pub hosted : (host_streams : List HostStream) (after : HostWorld) → hosts.HostStands host_streams after → after.function ≡ w.host.function
+      → StreamingStands (record p { host = host_streams }) d (record w { host = after })
+  hosted host_streams after of_host same = record {
     device = stands.device;
     host = of_host;
     same = same ∙ stands.same;
@@ -53,10 +53,10 @@ module _ (p : StreamingFields) (d : devices.DeviceFields) (w : StreamingWorld) (
   }
 
   -- the device and the host change, and the last packets
-  pub carried : (after : devices.DeviceFields) (lanes : List HostStream) (to_device from_device : List ℕ) (device : DeviceWorld) (host : HostWorld) → devices.DeviceStands after device
-      → hosts.HostStands lanes host → device.function ≡ w.device.function → host.function ≡ w.host.function
-      → StreamingStands (record p { host = lanes; sent_packet = to_device; fetched_packet = from_device }) after (record w { device = device; host = host })
-  carried after lanes to_device from_device device host of_device of_host device_same host_same = record {
+  pub carried : (after : devices.DeviceFields) (host_streams : List HostStream) (to_device from_device : List ℕ) (device : DeviceWorld) (host : HostWorld) → devices.DeviceStands after device
+      → hosts.HostStands host_streams host → device.function ≡ w.device.function → host.function ≡ w.host.function
+      → StreamingStands (record p { host = host_streams; sent_packet = to_device; fetched_packet = from_device }) after (record w { device = device; host = host })
+  carried after host_streams to_device from_device device host of_device of_host device_same host_same = record {
     device = of_device;
     host = of_host;
     same = host_same ∙ stands.same ∙ sym device_same;
@@ -104,14 +104,14 @@ met_still p d w interface change same stands =
 -- the counts of an interface change
 pub set_so : (p q : StreamingFields) (d : devices.DeviceFields) (w : StreamingWorld) (asked told : FunctionFields) (interface : ℕ) (change : StreamCounts → StreamCounts)
     (was counts : StreamCounts) → StreamingStands p d w → asked ≡ w.device.function → told ≡ w.device.function
-    → ((met : ℕ → StreamCounts) (place : ℕ) → p.met ≡ met_in met asked → place_of asked interface ≡ Some place → was ≡ met interface)
+    → ((met : ℕ → StreamCounts) (place : ℕ) → p.met ≡ met_in met asked → stream_index asked interface ≡ Some place → was ≡ met interface)
     → ((met : ℕ → StreamCounts) → p.met ≡ met_in met told → q.met ≡ met_in (counted_at interface (λ c. counts) met) told)
     → counts ≡ change was → q ≡ record p { met = q.met }
     → StreamingStands q d (record w { met = counted_at interface change w.met })
 set_so p q d w asked told interface change was counts stands of_asked of_told read puts is others =
     let function = w.device.function in
-    let own : (place : ℕ) → place_of function interface ≡ Some place → was ≡ w.met interface = λ place there.
-    subst (λ (f : FunctionFields). p.met ≡ met_in w.met f → place_of f interface ≡ Some place → was ≡ w.met interface) of_asked (read w.met place) stands.met there in
+    let own : (place : ℕ) → stream_index function interface ≡ Some place → was ≡ w.met interface = λ place there.
+    subst (λ (f : FunctionFields). p.met ≡ met_in w.met f → stream_index f interface ≡ Some place → was ≡ w.met interface) of_asked (read w.met place) stands.met there in
     let put : q.met ≡ met_in (counted_at interface (λ c. counts) w.met) function =
     subst (λ (f : FunctionFields). p.met ≡ met_in w.met f → q.met ≡ met_in (counted_at interface (λ c. counts) w.met) f) of_told (puts w.met) stands.met in
     subst (λ (r : StreamingFields). StreamingStands r d (record w { met = counted_at interface change w.met })) (sym others)
@@ -120,16 +120,16 @@ set_so p q d w asked told interface change was counts stands of_asked of_told re
 
 -- an event of the reports of an interface, at its place, and of one that there isn't
 pub given_there : (f function : FunctionFields) (interface place : ℕ) (event : ℕ → steadiness.SteadyHistory → steadiness.SteadyHistory) (steady : steadiness.SteadyFields)
-    (given : steadiness.SteadyHistory) → f ≡ function → Some place ≡ place_of function interface → steadiness.SteadyStands steady (event place given)
-    → steadiness.SteadyStands steady (given_at (place_of f interface) event given)
+    (given : steadiness.SteadyHistory) → f ≡ function → Some place ≡ stream_index function interface → steadiness.SteadyStands steady (event place given)
+    → steadiness.SteadyStands steady (given_at (stream_index f interface) event given)
 given_there f function interface place event steady given same there =
-    subst (λ (o : Option ℕ). steadiness.SteadyStands steady (given_at o event given)) (there ∙ ap (λ (g : FunctionFields). place_of g interface) (sym same))
+    subst (λ (o : Option ℕ). steadiness.SteadyStands steady (given_at o event given)) (there ∙ ap (λ (g : FunctionFields). stream_index g interface) (sym same))
 
 pub given_nowhere : (f function : FunctionFields) (interface : ℕ) (event : ℕ → steadiness.SteadyHistory → steadiness.SteadyHistory) (steady : steadiness.SteadyFields)
-    (given : steadiness.SteadyHistory) → f ≡ function → None ≡ place_of function interface → steadiness.SteadyStands steady given
-    → steadiness.SteadyStands steady (given_at (place_of f interface) event given)
+    (given : steadiness.SteadyHistory) → f ≡ function → None ≡ stream_index function interface → steadiness.SteadyStands steady given
+    → steadiness.SteadyStands steady (given_at (stream_index f interface) event given)
 given_nowhere f function interface event steady given same none =
-    subst (λ (o : Option ℕ). steadiness.SteadyStands steady (given_at o event given)) (none ∙ ap (λ (g : FunctionFields). place_of g interface) (sym same))
+    subst (λ (o : Option ℕ). steadiness.SteadyStands steady (given_at o event given)) (none ∙ ap (λ (g : FunctionFields). stream_index g interface) (sym same))
 
 -- what follows where a call went well
 pub where_ok : {T E P Q : Type 0} (r : Result T E) → (P → Q) → OnOk r P → OnOk r Q

@@ -6,7 +6,7 @@ use Rattle.uac_edges.specs.Writing.{AppendsFront}
 use Rattle.uac_transcript.specs.Transcript.{Said}
 use Rattle.uac_transcript.specs.Printing.{text_of}
 use Rattle.uac_transcript.proofs.PrintingLemmas.{Appends-lines, front_after, front_of_more}
-use Rattle.uac_streaming.specs.Telling.{Telling, at_rest, in_turn, telling_after}
+use Rattle.uac_streaming.specs.Telling.{Telling, without_event, in_turn, telling_after}
 
 -- so much of the whole was printed, what is left is what `rest` tells of the world that is kept now, and this holds of that world
 pub record SoFar {W : Type 0} (whole : Telling W) (rest : W → Telling W) (Holds : W → Type 0) (old new : Option (List ℕ)) : Type 0 where
@@ -52,9 +52,9 @@ stopped {W = W} whole rest next step Before old mid new splits s tells =
 
 -- nothing is left
 pub finished : {W : Type 0} (whole : Telling W) (rest : W → Telling W) (Holds : W → Type 0) (old new : Option (List ℕ))
-    → SoFar whole rest Holds old new → ((w : W) → rest w ≡ at_rest w) → Appends old new (text_of whole.lines) × Holds whole.world
+    → SoFar whole rest Holds old new → ((w : W) → rest w ≡ without_event w) → Appends old new (text_of whole.lines) × Holds whole.world
 finished {W = W} whole rest Holds old new s ends =
-    let is : telling_after s.lines (at_rest s.now) ≡ whole = ap (telling_after s.lines) (sym (ends s.now)) ∙ s.left in (
+    let is : telling_after s.lines (without_event s.now) ≡ whole = ap (telling_after s.lines) (sym (ends s.now)) ∙ s.left in (
       subst (λ (lines : List Said). Appends old new (text_of lines)) (sym (append-nil s.lines) ∙ ap (λ (told : Telling W). told.lines) is) s.written,
       subst Holds (ap (λ (told : Telling W). told.world) is) s.stands,
     )
@@ -66,7 +66,7 @@ pub in_turn_split : {W : Type 0} (event : ℕ → W → Telling W) (ns : List �
 unfolding in_turn
 in_turn_split event ns i w below = ap (λ (ms : List ℕ). in_turn event ms w) (drop-cons ns i 0 below) ∙ rw add-one refl
 
-pub in_turn_end : {W : Type 0} (event : ℕ → W → Telling W) (ns : List ℕ) (i : ℕ) (w : W) → length ns ≤ i → in_turn event (drop i ns) w ≡ at_rest w
+pub in_turn_end : {W : Type 0} (event : ℕ → W → Telling W) (ns : List ℕ) (i : ℕ) (w : W) → length ns ≤ i → in_turn event (drop i ns) w ≡ without_event w
 unfolding in_turn
 in_turn_end event ns i w past = ap (λ (ms : List ℕ). in_turn event ms w) (drop_all i ns past)
 

@@ -2,9 +2,9 @@
 use Rattle.std.proofs.Common.{◌≡◌, ◌∙◌, sym, ap, refl, arith, ℕ, Bool, List, [], ◌∷◌, ◌++◌, map, filter, inl, inr}
 use Rattle.std.proofs.lemmas.Bool.{cases_Bool}
 use Rattle.uac_entities.specs.declared.stream.StreamInterface.{StreamInterface}
-use Rattle.uac_lanes.specs.InterfaceStreams.{bits_of}
+use Rattle.uac_device_streams.specs.InterfaceStreams.{bits_of}
 use Rattle.uac_device.specs.DeviceWorld.{DeviceWorld, met_of}
-use Rattle.uac_lanes.specs.declared.ticking.Ticked.{Ticked}
+use Rattle.uac_device_streams.specs.declared.ticking.Ticked.{Ticked}
 use Rattle.uac_transcript.specs.Transcript.{Said, says_over, says_under}
 use Rattle.uac_streaming.specs.StreamingWorld.{finds_empty, finds_full, found_lines}
 

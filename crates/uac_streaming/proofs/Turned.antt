@@ -14,13 +14,13 @@ use Rattle.uac_device.specs.DeviceKept as devices
 use Rattle.uac_device.specs.DeviceWorld.{DeviceWorld, ZerosFitIn, arrival_in, feedback_in, frames_in, is_due_in, packet_in, after_receiving, after_sending_packet, after_settling}
 use Rattle.uac_host.specs.HostKept as hosts
 use Rattle.uac_host.specs.HostWorld.{HostWorld}
-use Rattle.uac_host.specs.Calls.{heard_in, size_of}
-use Rattle.uac_script.specs.Phrase.{SaidMark}
+use Rattle.uac_host.specs.HostCalls.{heard_in, size_of}
+use Rattle.uac_script.specs.Phrase.{PhraseMark}
 use Rattle.uac_transcript.specs.Transcript.{Said, says_feedback, says_frame, says_in}
 use Rattle.uac_transcript.specs.Printing.{Prints, text_of}
 use Rattle.uac_transcript.proofs.PrintingLemmas.{Prints-after}
-use Rattle.uac_streaming.specs.Telling.{Telling, at_rest, in_turn, telling_after}
-use Rattle.uac_streaming.specs.StreamingWorld.{StreamingWorld, all_reported, all_settled, comes_in, fetched_lines, goes_out, in_lines, in_packet_turn, in_packets, inward_turn, is_in_due, is_out_due, loses_in, loses_out, loses_report, numbers, numbers_in, numbers_out, out_lines, out_packets, out_turn, outward_turn, packet_fetched, packet_sent, packet_to, report_lines, report_made, report_turn, sent_lines, settled_lines, settled_turn}
+use Rattle.uac_streaming.specs.Telling.{Telling, without_event, in_turn, telling_after}
+use Rattle.uac_streaming.specs.StreamingWorld.{StreamingWorld, all_reported, all_settled, comes_in, fetched_lines, goes_out, in_lines, in_packet_turn, in_packets, inward_turn, is_in_due, is_out_due, loses_in, loses_out, loses_report, numbers, numbers_in, numbers_out, out_lines, out_packets, out_turn, outward_turn, packet_fetched, packet_sent, packet_to, feedback_lines, report_made, report_turn, sent_lines, settled_lines, settled_turn}
 use Rattle.uac_streaming.specs.StreamingKept.{StreamingFields, StreamingStands, StreamingTells}
 use Rattle.uac_streaming.proofs.TellingLemmas.{Appends-nothing}
 
@@ -30,20 +30,20 @@ at_ok P (Ok x) p = p
 at_ok P (Err e) p = tt
 
 -- nothing happened, and nothing was printed
-pub rests : (told : Telling StreamingWorld) (p : StreamingFields) (d : devices.DeviceFields) (old : Option (List ℕ)) (w : StreamingWorld) → at_rest w ≡ told → StreamingStands p d w
+pub rests : (told : Telling StreamingWorld) (p : StreamingFields) (d : devices.DeviceFields) (old : Option (List ℕ)) (w : StreamingWorld) → without_event w ≡ told → StreamingStands p d w
     → Appends old old (text_of told.lines) × StreamingStands p d told.world
 rests told p d old w is stands =
     subst (λ (t : Telling StreamingWorld). Appends old old (text_of t.lines) × StreamingStands p d t.world) is (Appends-nothing old, stands)
 
 -- ---- packets to the device
 
-module _ (detail interface : ℕ) (marks : List SaidMark) (w : StreamingWorld) (due : Bool) (is : due ≡ is_due_in w.device interface) where
-  pub out_rests : due ≡ false → at_rest w ≡ outward_turn detail marks interface w
+module _ (detail interface : ℕ) (marks : List PhraseMark) (w : StreamingWorld) (due : Bool) (is : due ≡ is_due_in w.device interface) where
+  pub out_rests : due ≡ false → without_event w ≡ outward_turn detail marks interface w
   unfolding outward_turn
   out_rests idle =
       let lost : Bool = loses_out marks interface in
       let runs : Telling StreamingWorld = record { lines = sent_lines detail lost interface w; world = packet_sent lost interface w } in
-      ap (λ (b : Bool). if b then runs else at_rest w) (sym idle ∙ is)
+      ap (λ (b : Bool). if b then runs else without_event w) (sym idle ∙ is)
 
   pub out_told : {T E : Type 0} (q : StreamingFields) (e : devices.DeviceFields) (old new : Option (List ℕ)) (r : Result T E) (frames : ℕ) (arrival : Arrival) (lost : Bool)
       → due ≡ true → lost ≡ loses_out marks interface → frames ≡ size_of w.host interface → arrival ≡ arrival_in w.device interface (packet_to lost interface w)
@@ -52,7 +52,7 @@ module _ (detail interface : ℕ) (marks : List SaidMark) (w : StreamingWorld) (
   out_told q e old new r frames arrival lost ran own frames_are arrives stands prints =
       let loses : Bool = loses_out marks interface in
       let runs : Telling StreamingWorld = record { lines = sent_lines detail loses interface w; world = packet_sent loses interface w } in
-      let happens : runs ≡ outward_turn detail marks interface w = ap (λ (b : Bool). if b then runs else at_rest w) (sym ran ∙ is) in
+      let happens : runs ≡ outward_turn detail marks interface w = ap (λ (b : Bool). if b then runs else without_event w) (sym ran ∙ is) in
       let lines : out_lines detail interface frames arrival ≡ sent_lines detail loses interface w =
       ap (λ (n : ℕ). out_lines detail interface n arrival) frames_are
       ∙ ap (out_lines detail interface (size_of w.host interface)) (arrives ∙ ap (λ (b : Bool). arrival_in w.device interface (packet_to b interface w)) own) in
@@ -79,13 +79,13 @@ host_still : (lost : Bool) (interface : ℕ) (w : StreamingWorld) → (packet_fe
 unfolding packet_fetched
 host_still lost interface w = refl
 
-module _ (detail interface : ℕ) (marks : List SaidMark) (w : StreamingWorld) (due : Bool) (is : due ≡ is_due_in w.device interface) where
-  pub in_rests : due ≡ false → at_rest w ≡ inward_turn detail marks interface w
+module _ (detail interface : ℕ) (marks : List PhraseMark) (w : StreamingWorld) (due : Bool) (is : due ≡ is_due_in w.device interface) where
+  pub in_rests : due ≡ false → without_event w ≡ inward_turn detail marks interface w
   unfolding inward_turn
   in_rests idle =
       let lost : Bool = loses_in marks interface in
       let runs : Telling StreamingWorld = record { lines = fetched_lines detail lost interface w; world = packet_fetched lost interface w } in
-      ap (λ (b : Bool). if b then runs else at_rest w) (sym idle ∙ is)
+      ap (λ (b : Bool). if b then runs else without_event w) (sym idle ∙ is)
 
   pub in_told : {T E : Type 0} (q : StreamingFields) (e : devices.DeviceFields) (old new : Option (List ℕ)) (r : Result T E) (frames : ℕ) (lost : Bool)
       → due ≡ true → lost ≡ loses_in marks interface → frames ≡ frames_in w.device interface → q.fetched_packet ≡ packet_in w.device interface
@@ -96,7 +96,7 @@ module _ (detail interface : ℕ) (marks : List SaidMark) (w : StreamingWorld) (
   in_told q e old new r frames lost ran own frames_are packet stands prints =
       let loses : Bool = loses_in marks interface in
       let runs : Telling StreamingWorld = record { lines = fetched_lines detail loses interface w; world = packet_fetched loses interface w } in
-      let happens : runs ≡ inward_turn detail marks interface w = ap (λ (b : Bool). if b then runs else at_rest w) (sym ran ∙ is) in
+      let happens : runs ≡ inward_turn detail marks interface w = ap (λ (b : Bool). if b then runs else without_event w) (sym ran ∙ is) in
       let lines : in_lines detail lost interface frames (heard_in w.host interface q.fetched_packet) ≡ fetched_lines detail loses interface w =
       ap (λ (b : Bool). in_lines detail b interface frames (heard_in w.host interface q.fetched_packet)) own
       ∙ ap (λ (n : ℕ). in_lines detail loses interface n (heard_in w.host interface q.fetched_packet)) frames_are
@@ -109,13 +109,13 @@ module _ (detail interface : ℕ) (marks : List SaidMark) (w : StreamingWorld) (
 
 -- ---- reports
 
-module _ (detail interface : ℕ) (marks : List SaidMark) (w : StreamingWorld) (report : Option ℕ) (is : report ≡ feedback_in w.device interface) where
-  pub report_rests : report ≡ None → at_rest w ≡ report_turn detail marks interface w
+module _ (detail interface : ℕ) (marks : List PhraseMark) (w : StreamingWorld) (report : Option ℕ) (is : report ≡ feedback_in w.device interface) where
+  pub report_rests : report ≡ None → without_event w ≡ report_turn detail marks interface w
   unfolding report_turn
   report_rests none =
       let lost : Bool = loses_report marks interface in
-      let made : ℕ → Telling StreamingWorld = λ value. record { lines = report_lines detail lost value interface; world = report_made lost value interface w } in
-      ap (λ (o : Option ℕ). option_map_or made o (at_rest w)) (sym none ∙ is)
+      let made : ℕ → Telling StreamingWorld = λ value. record { lines = feedback_lines detail lost value interface; world = report_made lost value interface w } in
+      ap (λ (o : Option ℕ). option_map_or made o (without_event w)) (sym none ∙ is)
 
   pub report_told : {T E : Type 0} (q : StreamingFields) (e : devices.DeviceFields) (old new : Option (List ℕ)) (r : Result T E) (value : ℕ) (lost : Bool)
       → report ≡ Some value → lost ≡ loses_report marks interface → StreamingStands q e (report_made lost value interface w)
@@ -123,10 +123,10 @@ module _ (detail interface : ℕ) (marks : List SaidMark) (w : StreamingWorld) (
   unfolding report_turn
   report_told q e old new r value lost some own stands prints =
       let loses : Bool = loses_report marks interface in
-      let made : ℕ → Telling StreamingWorld = λ v. record { lines = report_lines detail loses v interface; world = report_made loses v interface w } in
-      let happens : made value ≡ report_turn detail marks interface w = ap (λ (o : Option ℕ). option_map_or made o (at_rest w)) (sym some ∙ is) in
+      let made : ℕ → Telling StreamingWorld = λ v. record { lines = feedback_lines detail loses v interface; world = report_made loses v interface w } in
+      let happens : made value ≡ report_turn detail marks interface w = ap (λ (o : Option ℕ). option_map_or made o (without_event w)) (sym some ∙ is) in
       subst (λ (told : Telling StreamingWorld). StreamingTells told q e old new r) happens (
-        subst (λ (b : Bool). Prints old new r (report_lines detail b value interface)) own prints,
+        subst (λ (b : Bool). Prints old new r (feedback_lines detail b value interface)) own prints,
         at_ok (StreamingStands q e (report_made loses value interface w)) r (subst (λ (b : Bool). StreamingStands q e (report_made b value interface w)) own stands),
       )
 
@@ -215,7 +215,7 @@ module _ (p : StreamingFields) (d e : devices.DeviceFields) (detail interface i 
 
 -- where those that a test leaves out rest, and the others do as they do, these alone are told
 in_turn_chosen : {W : Type 0} (Kept : W → Type 0) (own event : ℕ → W → Telling W) (test : ℕ → Bool)
-    → ((n : ℕ) (w : W) → Kept w → test n ≡ true → own n w ≡ event n w) → ((n : ℕ) (w : W) → Kept w → test n ≡ false → at_rest w ≡ event n w)
+    → ((n : ℕ) (w : W) → Kept w → test n ≡ true → own n w ≡ event n w) → ((n : ℕ) (w : W) → Kept w → test n ≡ false → without_event w ≡ event n w)
     → ((n : ℕ) (w : W) → Kept w → Kept (event n w).world) → (ns : List ℕ) (w : W) → Kept w → in_turn own (filter test ns) w ≡ in_turn event ns w
 unfolding in_turn
 in_turn_chosen Kept own event test does rests keeps [] w kept = refl
@@ -235,20 +235,20 @@ in_turn_chosen {W = W} Kept own event test does rests keeps (n ∷ ns) w kept =
 abbrev IsOf : FunctionFields → StreamingWorld → Type 0
 IsOf function w = w.device.function ≡ function
 
-module _ (function : FunctionFields) (detail : ℕ) (marks : List SaidMark) (interface : ℕ) (w : StreamingWorld) (of : IsOf function w) where
+module _ (function : FunctionFields) (detail : ℕ) (marks : List PhraseMark) (interface : ℕ) (w : StreamingWorld) (of : IsOf function w) where
   outward_does : goes_out function interface ≡ true → outward_turn detail marks interface w ≡ out_turn detail marks interface w
   unfolding outward_turn out_turn
   outward_does goes =
       let lost : Bool = loses_out marks interface in
       let runs : Telling StreamingWorld = record { lines = sent_lines detail lost interface w; world = packet_sent lost interface w } in
-      ap (λ (b : Bool). if (b && is_due_in w.device interface) then runs else at_rest w) (sym (ap (λ (f : FunctionFields). goes_out f interface) of ∙ goes))
+      ap (λ (b : Bool). if (b && is_due_in w.device interface) then runs else without_event w) (sym (ap (λ (f : FunctionFields). goes_out f interface) of ∙ goes))
 
-  outward_rests : goes_out function interface ≡ false → at_rest w ≡ out_turn detail marks interface w
+  outward_rests : goes_out function interface ≡ false → without_event w ≡ out_turn detail marks interface w
   unfolding out_turn
   outward_rests stays =
       let lost : Bool = loses_out marks interface in
       let runs : Telling StreamingWorld = record { lines = sent_lines detail lost interface w; world = packet_sent lost interface w } in
-      ap (λ (b : Bool). if (b && is_due_in w.device interface) then runs else at_rest w) (sym (ap (λ (f : FunctionFields). goes_out f interface) of ∙ stays))
+      ap (λ (b : Bool). if (b && is_due_in w.device interface) then runs else without_event w) (sym (ap (λ (f : FunctionFields). goes_out f interface) of ∙ stays))
 
   outward_keeps : IsOf function (out_turn detail marks interface w).world
   unfolding out_turn packet_sent after_receiving
@@ -259,20 +259,20 @@ module _ (function : FunctionFields) (detail : ℕ) (marks : List SaidMark) (int
   inward_does comes =
       let lost : Bool = loses_in marks interface in
       let runs : Telling StreamingWorld = record { lines = fetched_lines detail lost interface w; world = packet_fetched lost interface w } in
-      ap (λ (b : Bool). if (b && is_due_in w.device interface) then runs else at_rest w) (sym (ap (λ (f : FunctionFields). comes_in f interface) of ∙ comes))
+      ap (λ (b : Bool). if (b && is_due_in w.device interface) then runs else without_event w) (sym (ap (λ (f : FunctionFields). comes_in f interface) of ∙ comes))
 
-  inward_rests : comes_in function interface ≡ false → at_rest w ≡ in_packet_turn detail marks interface w
+  inward_rests : comes_in function interface ≡ false → without_event w ≡ in_packet_turn detail marks interface w
   unfolding in_packet_turn
   inward_rests stays =
       let lost : Bool = loses_in marks interface in
       let runs : Telling StreamingWorld = record { lines = fetched_lines detail lost interface w; world = packet_fetched lost interface w } in
-      ap (λ (b : Bool). if (b && is_due_in w.device interface) then runs else at_rest w) (sym (ap (λ (f : FunctionFields). comes_in f interface) of ∙ stays))
+      ap (λ (b : Bool). if (b && is_due_in w.device interface) then runs else without_event w) (sym (ap (λ (f : FunctionFields). comes_in f interface) of ∙ stays))
 
   inward_keeps : IsOf function (in_packet_turn detail marks interface w).world
   unfolding in_packet_turn packet_fetched after_sending_packet
   inward_keeps = elim (cases_Bool (is_in_due w interface)) [ inl due ↦ rw due of | inr not_due ↦ rw not_due of ]
 
-pub out_packets_are : (detail : ℕ) (marks : List SaidMark) (w : StreamingWorld) (outs : List ℕ) → outs ≡ numbers_out w.device.function
+pub out_packets_are : (detail : ℕ) (marks : List PhraseMark) (w : StreamingWorld) (outs : List ℕ) → outs ≡ numbers_out w.device.function
     → in_turn (outward_turn detail marks) outs w ≡ out_packets detail marks w
 unfolding out_packets
 out_packets_are detail marks w outs is =
@@ -281,7 +281,7 @@ out_packets_are detail marks w outs is =
     ∙ in_turn_chosen (IsOf function) (outward_turn detail marks) (out_turn detail marks) (goes_out function) (outward_does function detail marks)
     (outward_rests function detail marks) (outward_keeps function detail marks) (numbers function) w refl
 
-pub in_packets_are : (detail : ℕ) (marks : List SaidMark) (w : StreamingWorld) (ins : List ℕ) → ins ≡ numbers_in w.device.function
+pub in_packets_are : (detail : ℕ) (marks : List PhraseMark) (w : StreamingWorld) (ins : List ℕ) → ins ≡ numbers_in w.device.function
     → in_turn (inward_turn detail marks) ins w ≡ in_packets detail marks w
 unfolding in_packets
 in_packets_are detail marks w ins is =
@@ -294,7 +294,7 @@ pub all_settled_are : (detail : ℕ) (w : StreamingWorld) (order : List ℕ) →
 unfolding all_settled
 all_settled_are detail w order is = ap (λ (ns : List ℕ). in_turn (settled_turn detail) ns w) is
 
-pub all_reported_are : (detail : ℕ) (marks : List SaidMark) (w : StreamingWorld) (order : List ℕ) → order ≡ numbers w.device.function
+pub all_reported_are : (detail : ℕ) (marks : List PhraseMark) (w : StreamingWorld) (order : List ℕ) → order ≡ numbers w.device.function
     → in_turn (report_turn detail marks) order w ≡ all_reported detail marks w
 unfolding all_reported
 all_reported_are detail marks w order is = ap (λ (ns : List ℕ). in_turn (report_turn detail marks) ns w) is

@@ -4,7 +4,7 @@ use Rattle.std.specs.List.{All, IsDistinct}
 use Rattle.uac_rate.specs.Levels.{IsInterval}
 use Rattle.uac_ring.specs.Rings.{ring_frames}
 use Rattle.uac_flow.specs.FlowStreams.{OutStream, out_level}
-use Rattle.uac_device.specs.DeviceKept.{IsInRange}
+use Rattle.uac_device.specs.DeviceKept.{IsDeviationInRange}
 use Rattle.uac_device.specs.DeviceWorld.{DeviceWorld}
 
 -- a stream to the device between two microframes: as many frames as its domain ticked since it was last due went out of its ring, or that
@@ -19,6 +19,6 @@ pub record HasRoom (o : OutStream) : Type 0 where
 
 -- so it is for each stream to the device; no clock is off by more than a tenth, and each domain is one
 pub record HaveRoom (w : DeviceWorld) : Type 0 where
-  pub deviations : All (λ d. IsInRange d.deviation) w.domains
+  pub deviations : All (λ d. IsDeviationInRange d.deviation) w.domains
   pub apart : IsDistinct nat_eq w.function.domains
   pub streams : (interface : ℕ) (o : OutStream) → w.outs interface ≡ Some o → HasRoom o

@@ -15,15 +15,15 @@ use Rattle.uac_units.specs.Hearing.{at_most_u64}
 use Rattle.uac_device.specs.DeviceWorld.{DeviceWorld, arrival_in, feedback_in, frames_in, fresh, is_due_in, is_on, level_of, packet_in}
 use Rattle.uac_device.specs.DeviceWorld.{after_receiving, after_sending_packet, after_settling, target_of}
 use Rattle.uac_host.specs.HostWorld.{HostWorld, fresh_host}
-use Rattle.uac_host.specs.Calls.{after_packet, heard_in, packet_of, size_of, with_report, with_stream}
-use Rattle.uac_script.specs.Phrase.{SaidMark}
+use Rattle.uac_host.specs.HostCalls.{after_host_packet, heard_in, packet_of, size_of, with_report, with_stream}
+use Rattle.uac_script.specs.Phrase.{PhraseMark}
 use Rattle.uac_script.specs.declared.line.MarkKind.{MarkKind}
 use Rattle.uac_script.specs.declared.line.MarkKind.TheVariants as mark_kinds
 use Rattle.uac_transcript.specs.declared.packets.PrintedArrival as printed
 use Rattle.uac_transcript.specs.declared.packets.PrintedArrival.TheVariants as arrived
 use Rattle.uac_transcript.specs.declared.report.StreamCounts.{StreamCounts}
 use Rattle.uac_transcript.specs.Transcript.{Said, says_feedback, says_frame, says_in, says_level, says_out, says_over, says_under}
-use Rattle.uac_streaming.specs.Telling.{Telling, at_rest, in_turn}
+use Rattle.uac_streaming.specs.Telling.{Telling, without_event, in_turn}
 
 -- a host and a device, and what happened between them
 pub record StreamingWorld : Type 0 where
@@ -65,8 +65,8 @@ abbrev pub numbers_in : FunctionFields → List ℕ
 numbers_in function = filter (comes_in function) (numbers function)
 
 -- the place of an interface among the streaming ones, in block order
-abbrev pub place_of : FunctionFields → ℕ → Option ℕ
-place_of function interface = position (λ s. s.number == interface) function.streams
+abbrev pub stream_index : FunctionFields → ℕ → Option ℕ
+stream_index function interface = position (λ s. s.number == interface) function.streams
 
 -- ---- losses
 
@@ -92,13 +92,13 @@ marks_report mark_kinds.In = false
 marks_report mark_kinds.Feedback = true
 
 -- the packet to the device of an interface is lost, that from it, or its report
-abbrev pub loses_out : List SaidMark → ℕ → Bool
+abbrev pub loses_out : List PhraseMark → ℕ → Bool
 loses_out marks interface = list_any (λ l. marks_out l.kind && is_at l.interface interface) marks
 
-abbrev pub loses_in : List SaidMark → ℕ → Bool
+abbrev pub loses_in : List PhraseMark → ℕ → Bool
 loses_in marks interface = list_any (λ l. marks_in l.kind && is_at l.interface interface) marks
 
-abbrev pub loses_report : List SaidMark → ℕ → Bool
+abbrev pub loses_report : List PhraseMark → ℕ → Bool
 loses_report marks interface = list_any (λ l. marks_report l.kind && is_at l.interface interface) marks
 
 -- ---- counts
@@ -161,7 +161,7 @@ packet_sent lost interface w =
     let packet = packet_to lost interface w in
     record w {
       device = after_receiving interface packet w.device;
-      host = after_packet interface w.host;
+      host = after_host_packet interface w.host;
       met = counted_at interface (after_arrival (arrival_in w.device interface packet)) w.met;
     }
 
@@ -175,7 +175,7 @@ abbrev pub is_out_due : StreamingWorld → ℕ → Bool
 is_out_due w interface = goes_out w.device.function interface && is_due_in w.device interface
 
 -- a packet's turn to the device, where the interface runs such a stream that is due
-unfoldable pub out_turn : ℕ → List SaidMark → ℕ → StreamingWorld → Telling StreamingWorld
+unfoldable pub out_turn : ℕ → List PhraseMark → ℕ → StreamingWorld → Telling StreamingWorld
 out_turn detail marks interface w =
     if is_out_due w interface
     then record {
@@ -183,20 +183,20 @@ out_turn detail marks interface w =
       world = packet_sent
           (loses_out marks interface) interface w;
     }
-    else at_rest w
+    else without_event w
 
 -- of an interface that carries a stream to the device, where that is due
-unfoldable pub outward_turn : ℕ → List SaidMark → ℕ → StreamingWorld → Telling StreamingWorld
+unfoldable pub outward_turn : ℕ → List PhraseMark → ℕ → StreamingWorld → Telling StreamingWorld
 outward_turn detail marks interface w =
     if is_due_in w.device interface
     then record {
       lines = sent_lines detail (loses_out marks interface) interface w;
       world = packet_sent (loses_out marks interface) interface w;
     }
-    else at_rest w
+    else without_event w
 
 -- the packets to the device, by interface number
-unfoldable pub out_packets : ℕ → List SaidMark → StreamingWorld → Telling StreamingWorld
+unfoldable pub out_packets : ℕ → List PhraseMark → StreamingWorld → Telling StreamingWorld
 out_packets detail marks w = in_turn (out_turn detail marks) (numbers w.device.function) w
 
 -- ---- packets from the device
@@ -222,7 +222,7 @@ abbrev pub is_in_due : StreamingWorld → ℕ → Bool
 is_in_due w interface = comes_in w.device.function interface && is_due_in w.device interface
 
 -- a packet's turn from the device, where the interface runs such a stream that is due
-unfoldable pub in_packet_turn : ℕ → List SaidMark → ℕ → StreamingWorld → Telling StreamingWorld
+unfoldable pub in_packet_turn : ℕ → List PhraseMark → ℕ → StreamingWorld → Telling StreamingWorld
 in_packet_turn detail marks interface w =
     if is_in_due w interface
     then record {
@@ -230,20 +230,20 @@ in_packet_turn detail marks interface w =
       world = packet_fetched
           (loses_in marks interface) interface w;
     }
-    else at_rest w
+    else without_event w
 
 -- of an interface that carries a stream from the device, where that is due
-unfoldable pub inward_turn : ℕ → List SaidMark → ℕ → StreamingWorld → Telling StreamingWorld
+unfoldable pub inward_turn : ℕ → List PhraseMark → ℕ → StreamingWorld → Telling StreamingWorld
 inward_turn detail marks interface w =
     if is_due_in w.device interface
     then record {
       lines = fetched_lines detail (loses_in marks interface) interface w;
       world = packet_fetched (loses_in marks interface) interface w;
     }
-    else at_rest w
+    else without_event w
 
 -- the packets from the device, by interface number
-unfoldable pub in_packets : ℕ → List SaidMark → StreamingWorld → Telling StreamingWorld
+unfoldable pub in_packets : ℕ → List PhraseMark → StreamingWorld → Telling StreamingWorld
 in_packets detail marks w = in_turn (in_packet_turn detail marks) (numbers w.device.function) w
 
 -- ---- ticks
@@ -298,22 +298,22 @@ report_made lost value interface w =
     record w {
       host = if lost then w.host else with_report interface value w.host;
       met = counted_at interface (λ c. if lost then one_missed c else c) w.met;
-      history = given_at (place_of w.device.function interface) (λ place. with_report_given place lost) w.history;
+      history = given_at (stream_index w.device.function interface) (λ place. with_report_given place lost) w.history;
     }
 
 -- from detail 2 on it is said
-abbrev pub report_lines : ℕ → Bool → ℕ → ℕ → List Said
-report_lines detail lost value interface = if nat_le 2 detail then says_feedback interface value lost ∷ [] else []
+abbrev pub feedback_lines : ℕ → Bool → ℕ → ℕ → List Said
+feedback_lines detail lost value interface = if nat_le 2 detail then says_feedback interface value lost ∷ [] else []
 
 -- a report's turn, where one of the interface's stream is due
-unfoldable pub report_turn : ℕ → List SaidMark → ℕ → StreamingWorld → Telling StreamingWorld
+unfoldable pub report_turn : ℕ → List PhraseMark → ℕ → StreamingWorld → Telling StreamingWorld
 report_turn detail marks interface w =
     let lost = loses_report marks interface in
-    option_map_or (λ value. record { lines = report_lines detail lost value interface; world = report_made lost value interface w })
-    (feedback_in w.device interface) (at_rest w)
+    option_map_or (λ value. record { lines = feedback_lines detail lost value interface; world = report_made lost value interface w })
+    (feedback_in w.device interface) (without_event w)
 
 -- the reports, by interface number
-unfoldable pub all_reported : ℕ → List SaidMark → StreamingWorld → Telling StreamingWorld
+unfoldable pub all_reported : ℕ → List PhraseMark → StreamingWorld → Telling StreamingWorld
 all_reported detail marks w = in_turn (report_turn detail marks) (numbers w.device.function) w
 
 -- ---- starts
@@ -323,5 +323,5 @@ unfoldable pub after_following : ℕ → Option StreamFields → StreamingWorld 
 after_following interface begun w =
     record w {
       host = with_stream interface begun w.host;
-      history = if is_some begun then given_at (place_of w.device.function interface) with_restart_given w.history else w.history;
+      history = if is_some begun then given_at (stream_index w.device.function interface) with_restart_given w.history else w.history;
     }

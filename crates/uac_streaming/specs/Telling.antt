@@ -12,10 +12,10 @@ abbrev pub telling_after : {W : Type 0} → List Said → Telling W → Telling 
 telling_after lines told = record { lines = lines ++ told.lines; world = told.world }
 
 -- nothing happens and nothing is said
-abbrev pub at_rest : {W : Type 0} → W → Telling W
-at_rest w = record { lines = []; world = w }
+abbrev pub without_event : {W : Type 0} → W → Telling W
+without_event w = record { lines = []; world = w }
 
 -- something of each of these, one after the other
 unfoldable pub in_turn : {W : Type 0} → (ℕ → W → Telling W) → List ℕ → W → Telling W
-in_turn event [] w = at_rest w
+in_turn event [] w = without_event w
 in_turn event (n ∷ ns) w = telling_after (event n w).lines (in_turn event ns (event n w).world)

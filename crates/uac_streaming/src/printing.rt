@@ -4,11 +4,11 @@ ghost use Rattle.std.specs.List.{filter};
 ghost use Rattle.uac_edges.specs.Faults.{HasCause};
 ghost use Rattle.uac_entities.specs.declared.stream.StreamInterface as streamed;
 ghost use Rattle.uac_host.specs.HostWorld.{HostWorld};
-ghost use Rattle.uac_host.specs.Calls.{heard_in};
+ghost use Rattle.uac_host.specs.HostCalls.{heard_in};
 ghost use Rattle.uac_host.specs.HostKept as kept;
 ghost use Rattle.uac_transcript.specs.Printing.{Prints};
 ghost use Rattle.uac_transcript.specs.Transcript.{says_feedback, says_frame, says_in, says_out};
-ghost use Rattle.uac_lanes.specs.InterfaceStreams.{bits_of};
+ghost use Rattle.uac_device_streams.specs.InterfaceStreams.{bits_of};
 ghost use Rattle.uac_streaming.specs.FoundRings.{says_found};
 ghost use Rattle.uac_streaming.specs.StreamingWorld as spec;
 

@@ -7,7 +7,7 @@ ghost use Rattle.uac_rate.specs.Steadiness.{with_deviation_given, is_steady, wit
 ghost use Rattle.uac_device.specs.DeviceKept as devices;
 ghost use Rattle.uac_device.specs.DeviceWorld.{DeviceWorld, arrival_in, frames_in, fresh, met_of, packet_in, after_receiving};
 ghost use Rattle.uac_topology.specs.Function.{interface_in};
-ghost use Rattle.uac_host.specs.Calls.{AreWhole, IsStreamOf, size_of, with_report, with_samples, with_tone};
+ghost use Rattle.uac_host.specs.HostCalls.{AreWhole, IsStreamOf, size_of, with_report, with_samples, with_track_tone};
 ghost use Rattle.uac_transcript.specs.declared.report.StreamCounts as counted;
 ghost use Rattle.uac_streaming.specs.StreamingWorld.{StreamingWorld, after_following, found_counts, packet_fetched, packet_sent, packet_to};
 ghost use Rattle.uac_streaming.specs.StreamingWorld.{report_made, streaming_start};
@@ -133,7 +133,7 @@ impl Streaming {
     /// A tone follows the frames that wait on an interface, from its first frame.
     pub fn track(&mut self, interface: u8, tone: Tone)
         ensures { (d : devices.DeviceFields) (w : StreamingWorld) → StreamingStands self.old d w
-            → StreamingStands self.new d (record w { host = with_tone interface tone w.host }) }
+            → StreamingStands self.new d (record w { host = with_track_tone interface tone w.host }) }
     {
         self.host.track(interface, tone);
     }
@@ -171,7 +171,7 @@ impl Streaming {
         requires { length function.now.streams ≤ 8 }
         ensures { (d : devices.DeviceFields) (w : StreamingWorld) → StreamingStands self.old d w → w.device.function ≡ function.now
             → StreamingStands self.new d (record w
-            { history = spec.given_at (spec.place_of w.device.function interface) with_restart_given w.history }) }
+            { history = spec.given_at (spec.stream_index w.device.function interface) with_restart_given w.history }) }
     {
         match function.stream_at(interface) {
             Some(place) => self.steady.restart(place as u8),
@@ -249,7 +249,7 @@ impl Streaming {
         requires { length function.now.streams ≤ 8 }
         ensures stands { (d : devices.DeviceFields) (w : StreamingWorld) → StreamingStands self.old d w → w.device.function ≡ function.now
             → StreamingStands self.new d (record w {
-              history = spec.given_at (spec.place_of w.device.function interface) (λ place. with_report_given place lost) w.history;
+              history = spec.given_at (spec.stream_index w.device.function interface) (λ place. with_report_given place lost) w.history;
             }) }
         ensures order { self.new.order ≡ self.old.order }
     {
@@ -302,8 +302,8 @@ impl Streaming {
     /// What the streams of an interface met; nothing where there is no such interface.
     pub fn met_on(&self, function: &Function, interface: u8) -> StreamCounts
         ensures met { (met : ℕ → counted.StreamCounts) (place : ℕ) → self.now.met ≡ spec.met_in met function.now
-            → spec.place_of function.now interface ≡ Some place → result ≡ met interface }
-        ensures none { spec.place_of function.now interface ≡ None → result ≡ spec.nothing_met }
+            → spec.stream_index function.now interface ≡ Some place → result ≡ met interface }
+        ensures none { spec.stream_index function.now interface ≡ None → result ≡ spec.nothing_met }
     {
         match function.stream_at(interface) {
             Some(place) => counts_at(&self.met, place),

@@ -1,7 +1,7 @@
 // The events of a microframe, interface by interface, each printed as it happens.
 ghost use Rattle.std.specs.Prelude.{◌≡◌, ◌&&◌, ◌<◌, nat_le, ℕ, length, map};
 ghost use Rattle.uac_edges.specs.Faults.{HasCause};
-ghost use Rattle.uac_script.specs.Line.{said_mark};
+ghost use Rattle.uac_script.specs.Line.{phrase_mark};
 ghost use Rattle.uac_device.specs.DeviceWorld.{DeviceWorld, ZerosFitIn, is_due_in, met_of, after_settling};
 ghost use Rattle.uac_device.specs.DeviceKept as device_kept;
 ghost use Rattle.uac_transcript.specs.Printing.{Prints};
@@ -30,7 +30,8 @@ impl Streaming {
         sink: &mut K,
     ) -> Result<(), Failed>
         ensures tells { (w : StreamingWorld) → StreamingStands self.old device.old w
-            → StreamingTells (out_packets detail (map said_mark marks.now) w) self.new device.new (K.written sink.old) (K.written sink.new)
+            → StreamingTells (out_packets detail (map phrase_mark marks.now) w) self.new device.new (K.written sink.old)
+            (K.written sink.new)
             result }
         ensures function { device.new.function ≡ device.old.function }
         ensures cause { HasCause (K.faults sink.old) (K.faults sink.new) result }
@@ -52,7 +53,7 @@ impl Streaming {
         sink: &mut K,
     ) -> Result<(), Failed>
         ensures tells { (w : StreamingWorld) → StreamingStands self.old device.old w
-            → StreamingTells (outward_turn detail (map said_mark marks.now) interface w) self.new device.new (K.written sink.old)
+            → StreamingTells (outward_turn detail (map phrase_mark marks.now) interface w) self.new device.new (K.written sink.old)
             (K.written sink.new) result }
         ensures order { self.new.outs ≡ self.old.outs }
         ensures function { device.new.function ≡ device.old.function }
@@ -74,7 +75,7 @@ impl Streaming {
         sink: &mut K,
     ) -> Result<(), Failed>
         ensures tells { (w : StreamingWorld) → StreamingStands self.old device.old w
-            → StreamingTells (in_packets detail (map said_mark marks.now) w) self.new device.new (K.written sink.old) (K.written sink.new)
+            → StreamingTells (in_packets detail (map phrase_mark marks.now) w) self.new device.new (K.written sink.old) (K.written sink.new)
             result }
         ensures function { device.new.function ≡ device.old.function }
         ensures cause { HasCause (K.faults sink.old) (K.faults sink.new) result }
@@ -96,7 +97,7 @@ impl Streaming {
         sink: &mut K,
     ) -> Result<(), Failed>
         ensures tells { (w : StreamingWorld) → StreamingStands self.old device.old w
-            → StreamingTells (inward_turn detail (map said_mark marks.now) interface w) self.new device.new (K.written sink.old)
+            → StreamingTells (inward_turn detail (map phrase_mark marks.now) interface w) self.new device.new (K.written sink.old)
             (K.written sink.new) result }
         ensures order { self.new.ins ≡ self.old.ins }
         ensures function { device.new.function ≡ device.old.function }
@@ -151,7 +152,8 @@ impl Streaming {
         sink: &mut K,
     ) -> Result<(), Failed>
         ensures tells { (w : StreamingWorld) → StreamingStands self.old device.now w
-            → StreamingTells (all_reported detail (map said_mark marks.now) w) self.new device.now (K.written sink.old) (K.written sink.new)
+            → StreamingTells (all_reported detail (map phrase_mark marks.now) w) self.new device.now (K.written sink.old)
+            (K.written sink.new)
             result }
         ensures cause { HasCause (K.faults sink.old) (K.faults sink.new) result }
     {
@@ -172,7 +174,7 @@ impl Streaming {
         sink: &mut K,
     ) -> Result<(), Failed>
         ensures tells { (w : StreamingWorld) → StreamingStands self.old device.now w
-            → StreamingTells (report_turn detail (map said_mark marks.now) interface w) self.new device.now (K.written sink.old)
+            → StreamingTells (report_turn detail (map phrase_mark marks.now) interface w) self.new device.now (K.written sink.old)
             (K.written sink.new) result }
         ensures order { self.new.order ≡ self.old.order }
         ensures cause { HasCause (K.faults sink.old) (K.faults sink.new) result }

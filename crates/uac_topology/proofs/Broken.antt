@@ -10,7 +10,7 @@ use Rattle.uac_entities.specs.declared.stream.StreamInterface.{StreamInterface}
 use Rattle.uac_topology_rules.specs.declared.fault.TopologyFault.{TopologyFault}
 use Rattle.uac_topology_rules.specs.RuleFaults.{broken_names, broken_walks, broken_shapes, broken_ends, rule_fault}
 use Rattle.uac_topology_rules.proofs.Sound.{option_or-none}
-use Rattle.uac_topology.specs.Topology.{first_broken, streams_in}
+use Rattle.uac_topology.specs.Topology.{first_fault_of, streams_in}
 
 -- the first of four
 or_at : {X : Type 0} → Option X → Option X → Option X → Option X → Option X
@@ -43,26 +43,26 @@ or_last a b c d o e f g h =
     ∙ sym (ap (λ x. option_or x (option_or d None)) g) ∙ option_or-none d ∙ sym h
 
 module _ (blocks : List block.Block) (es : List Entity) (e : es ≡ entities_of blocks) where
-  pub by_names : (fault : TopologyFault) → Some fault ≡ broken_names es → first_broken blocks ≡ Some fault
-  unfolding first_broken
+  pub by_names : (fault : TopologyFault) → Some fault ≡ broken_names es → first_fault_of blocks ≡ Some fault
+  unfolding first_fault_of
   by_names fault f =
       is_or (entities_of blocks) (declared_settings blocks) (streams_in blocks) ∙ or_first _ _ _ _ fault (f ∙ ap broken_names e)
 
-  pub by_walks : (fault : TopologyFault) → None ≡ broken_names es → Some fault ≡ broken_walks es → first_broken blocks ≡ Some fault
-  unfolding first_broken
+  pub by_walks : (fault : TopologyFault) → None ≡ broken_names es → Some fault ≡ broken_walks es → first_fault_of blocks ≡ Some fault
+  unfolding first_fault_of
   by_walks fault a f =
       is_or (entities_of blocks) (declared_settings blocks) (streams_in blocks)
       ∙ or_second _ _ _ _ fault (a ∙ ap broken_names e) (f ∙ ap broken_walks e)
 
-  pub by_shapes : (fault : TopologyFault) → None ≡ broken_names es → None ≡ broken_walks es → Some fault ≡ broken_shapes es → first_broken blocks ≡ Some fault
-  unfolding first_broken
+  pub by_shapes : (fault : TopologyFault) → None ≡ broken_names es → None ≡ broken_walks es → Some fault ≡ broken_shapes es → first_fault_of blocks ≡ Some fault
+  unfolding first_fault_of
   by_shapes fault a b f =
       is_or (entities_of blocks) (declared_settings blocks) (streams_in blocks)
       ∙ or_third _ _ _ _ fault (a ∙ ap broken_names e) (b ∙ ap broken_walks e) (f ∙ ap broken_shapes e)
 
   pub by_ends : (all : List DeclaredSetting) (ss : List StreamInterface) (o : Option TopologyFault) → all ≡ declared_settings blocks → ss ≡ streams_in blocks →
-      None ≡ broken_names es → None ≡ broken_walks es → None ≡ broken_shapes es → o ≡ broken_ends es all ss → first_broken blocks ≡ o
-  unfolding first_broken
+      None ≡ broken_names es → None ≡ broken_walks es → None ≡ broken_shapes es → o ≡ broken_ends es all ss → first_fault_of blocks ≡ o
+  unfolding first_fault_of
   by_ends all ss o p q a b c f =
       is_or (entities_of blocks) (declared_settings blocks) (streams_in blocks)
       ∙ or_last _ _ _ _ o (a ∙ ap broken_names e) (b ∙ ap broken_walks e) (c ∙ ap broken_shapes e)

@@ -13,15 +13,15 @@ use Rattle.uac_topology_rules.specs.declared.fault.TopologyFault.{TopologyFault}
 use Rattle.uac_topology_rules.specs.Links.{signal_links, clock_links}
 use Rattle.uac_topology_rules.specs.Offenders.{offender, interface_offender}
 use Rattle.uac_topology_rules.specs.Rules as rules
-use Rattle.uac_topology_rules.specs.RuleFaults.{of_entity, of_interface, least, broken_names, broken_walks, broken_shapes, broken_ends, rule_fault}
+use Rattle.uac_topology_rules.specs.RuleFaults.{of_entity, of_interface, first_some, broken_names, broken_walks, broken_shapes, broken_ends, rule_fault}
 use Rattle.uac_topology_rules.specs.LinkCycles.{HasNoCycle, IsSignalFault, IsClockFault}
 use Rattle.uac_topology_rules.proofs.LinkCyclesLemmas.{cycles_are_named}
 use Rattle.uac_topology_rules.proofs.Sound.{or_none}
 use Rattle.uac_walk.proofs.CyclesLemmas as walks
-use Rattle.uac_topology.specs.Topology.{first_broken, streams_in, SoundHasNoCycle, IsRefusedBy, RefusesCycles, CyclesAreRefused}
+use Rattle.uac_topology.specs.Topology.{first_fault_of, streams_in, SoundHasNoCycle, IsRefusedBy, RefusesCycles, CyclesAreRefused}
 
 pub sound_has_no_cycle : SoundHasNoCycle
-unfolding first_broken rule_fault
+unfolding first_fault_of rule_fault
 sound_has_no_cycle blocks sound =
     let es = entities_of blocks in
     let names = or_none (broken_names es) _ sound in
@@ -87,16 +87,16 @@ walks_fault None None later few many fault e low high = absurd (omega (arith, ma
 walks_fault None (Some f) later few many fault e low high = (refl, e)
 
 module _ (blocks : List block.Block) where
-  refused_by_walks : (fault : TopologyFault) → first_broken blocks ≡ Some fault → 6 ≤ fault.rule → fault.rule ≤ 7 →
+  refused_by_walks : (fault : TopologyFault) → first_fault_of blocks ≡ Some fault → 6 ≤ fault.rule → fault.rule ≤ 7 →
       (broken_names (entities_of blocks) ≡ None) × (broken_walks (entities_of blocks) ≡ Some fault)
-  unfolding first_broken rule_fault
+  unfolding first_fault_of rule_fault
   refused_by_walks fault e low high =
       let es = entities_of blocks in
       walks_fault (broken_names es) (broken_walks es) _ (names_within es)
       (or_within _ _ _ (shapes_within es) (or_within _ _ _ (ends_within es (declared_settings blocks) (streams_in blocks)) (none_within _))) fault e low high
 
-  refused : (fault : TopologyFault) → broken_names (entities_of blocks) ≡ None → broken_walks (entities_of blocks) ≡ Some fault → first_broken blocks ≡ Some fault
-  unfolding first_broken rule_fault
+  refused : (fault : TopologyFault) → broken_names (entities_of blocks) ≡ None → broken_walks (entities_of blocks) ≡ Some fault → first_fault_of blocks ≡ Some fault
+  unfolding first_fault_of rule_fault
   refused fault names walks =
       let es = entities_of blocks in
       let later = option_or (broken_shapes es) (option_or (broken_ends es (declared_settings blocks) (streams_in blocks)) None) in
@@ -122,11 +122,11 @@ module _ (blocks : List block.Block) where
 
   -- some fault of the rules on walks, where there is a cycle
   fault_of_cycle : broken_names (entities_of blocks) ≡ None → (HasNoCycle (entities_of blocks) → ⊥) →
-      (fault : TopologyFault) × (first_broken blocks ≡ Some fault) × (IsSignalFault (entities_of blocks) fault ⊎ IsClockFault (entities_of blocks) fault)
+      (fault : TopologyFault) × (first_fault_of blocks ≡ Some fault) × (IsSignalFault (entities_of blocks) fault ⊎ IsClockFault (entities_of blocks) fault)
   fault_of_cycle names cycle = by (broken_walks (entities_of blocks)) refl
     where
       by : (o : Option TopologyFault) → broken_walks (entities_of blocks) ≡ o →
-          (fault : TopologyFault) × (first_broken blocks ≡ Some fault) × (IsSignalFault (entities_of blocks) fault ⊎ IsClockFault (entities_of blocks) fault)
+          (fault : TopologyFault) × (first_fault_of blocks ≡ Some fault) × (IsSignalFault (entities_of blocks) fault ⊎ IsClockFault (entities_of blocks) fault)
       by None e = absurd (cycle ((cycles_are_named (entities_of blocks) names).sound.0 e))
       by (Some fault) e = (fault, refused fault names e, ((cycles_are_named (entities_of blocks) names).fault fault).0 e)
 

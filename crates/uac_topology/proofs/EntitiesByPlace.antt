@@ -27,7 +27,7 @@ named_at entities id place is = ap (option_and_then (slice_get entities)) (sym i
 pub named_nowhere : (entities : List Entity) (id : ℕ) → position (λ e. e.id == id) entities ≡ None → None ≡ entity_by_id entities id
 named_nowhere entities id is = ap (option_and_then (slice_get entities)) (sym is) ∙ named_is_found entities id
 
--- an element that is looked up, behind its reference
+-- an element that is looked up, under its reference
 pub looked_up : (r : Option (Bor Entity)) (xs : List Entity) (i : ℕ) → is_some r ≡ nat_lt i (length xs) → IfSome r (λ x. x.now ≡ get_or xs i x.now)
     → option_map (λ e. e.now) r ≡ slice_get xs i
 looked_up None xs i there at = sym (slice_get_past xs i (ltb-false i (length xs) (sym there)))

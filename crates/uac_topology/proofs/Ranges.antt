@@ -7,7 +7,7 @@ use Rattle.std.proofs.lemmas.List.Elements.{All-nil, All-cons}
 use Rattle.uac_walk.proofs.WalkLemmas.{none_at}
 use Rattle.uac_descriptor.specs.Contexts.{EachIn, context_after, interface_context}
 use Rattle.uac_descriptor.specs.Classes.{is_control_interface, is_streaming_interface}
-use Rattle.uac_descriptor.specs.BlockFields.{is_isochronous, IsFormat, IsHighSpeed}
+use Rattle.uac_descriptor.specs.BlockFields.{is_isochronous, IsTypeOneFormat, IsHighSpeed}
 use Rattle.uac_descriptor.specs.WellFormed.{IsWellFormed}
 use Rattle.uac_descriptor.specs.declared.context.Context.{Context}
 use Rattle.uac_descriptor.specs.declared.context.Context.TheVariants as context
@@ -26,7 +26,7 @@ use Rattle.uac_entities.specs.declared.stream.StreamInterface.{StreamInterface}
 use Rattle.uac_topology_rules.specs.Rules as rules
 use Rattle.uac_topology_rules.specs.Rules.{at_stream, breaks_u13, is_wrong}
 use Rattle.uac_topology.specs.Function.{FunctionFields}
-use Rattle.uac_topology.specs.FunctionKept.{AreInRange, IsInRange}
+use Rattle.uac_topology.specs.FunctionKept.{AreInRange, IsSettingInRange}
 use Rattle.uac_topology.specs.Topology.{IsSoundFunction, IsSound, streams_in}
 use Rattle.uac_topology.proofs.SoundRules.{endpoints_within, no_interface}
 
@@ -67,9 +67,9 @@ unfolding endpoint_of
 fast_of (row.Endpoint x) e well is = let same : x ≡ e = cc in subst IsFast same (well refl)
 fast_of b e well is = absurd (cc)
 
-sized_of : (b : block.Block) (f : TypeOne) → IsWellFormed context.StreamingInterface b → format_of b ≡ Some f → IsFormat f
+sized_of : (b : block.Block) (f : TypeOne) → IsWellFormed context.StreamingInterface b → format_of b ≡ Some f → IsTypeOneFormat f
 unfolding format_of
-sized_of (row.TypeOne x) f well is = let same : x ≡ f = cc in subst IsFormat same well
+sized_of (row.TypeOne x) f well is = let same : x ≡ f = cc in subst IsTypeOneFormat same well
 sized_of b f well is = absurd (cc)
 
 own_hold : {X : Type 0} (row_of : block.Block → Option X) (P : X → Type 0)
@@ -90,7 +90,7 @@ own_hold row_of P gives (b ∷ following) (well, each) = by (ends_setting b) ref
 
 -- a setting whose format is in range, and its endpoints where they are isochronous
 record IsReady (s : Setting) : Type 0 where
-  pub format : (f : TypeOne) → s.format ≡ Some f → IsFormat f
+  pub format : (f : TypeOne) → s.format ≡ Some f → IsTypeOneFormat f
   pub first : (e : Endpoint) → s.first ≡ Some e → IsFast e
   pub second : (e : Endpoint) → s.second ≡ Some e → IsFast e
 
@@ -118,7 +118,7 @@ alternate_ready : (i : Interface) (following : List block.Block) → EachIn IsWe
     → IsReady (declared_setting_of i following).setting
 alternate_ready i following each =
     record {
-      format = λ f is. got IsFormat (own format_of following) 0 f (own_hold format_of IsFormat sized_of following each) is;
+      format = λ f is. got IsTypeOneFormat (own format_of following) 0 f (own_hold format_of IsTypeOneFormat sized_of following each) is;
       first = λ e is. got IsFast (own endpoint_of following) 0 e (own_hold endpoint_of IsFast fast_of following each) is;
       second = λ e is. got IsFast (own endpoint_of following) 1 e (own_hold endpoint_of IsFast fast_of following each) is;
     }
@@ -157,7 +157,7 @@ some_of : (P : Endpoint → Bool) (o : Option Endpoint) (e : Endpoint) → optio
 some_of P None e h is = absurd (cc)
 some_of P (Some x) e h is = let same : x ≡ e = cc in subst (λ (y : Endpoint). P y ≡ true) same (not_false (P x) h)
 
-right_setting : (out : Bool) (a : DeclaredSetting) → is_wrong out a ≡ false → IsReady a.setting → IsInRange a.setting
+right_setting : (out : Bool) (a : DeclaredSetting) → is_wrong out a ≡ false → IsReady a.setting → IsSettingInRange a.setting
 unfolding is_wrong
 right_setting out a right ready =
     let ends = or_parts _ _ (or_parts _ _ (or_parts _ _ right).1).1 in
@@ -170,18 +170,18 @@ right_setting out a right ready =
 -- ---- a setting of a streaming interface
 
 setting_right : (out : Bool) (number : ℕ) (a : DeclaredSetting) (t : Setting) → (a.interface == number && is_wrong out a) ≡ false → IsReady a.setting
-    → setting_of number a ≡ Some t → IsInRange t
+    → setting_of number a ≡ Some t → IsSettingInRange t
 unfolding setting_of
 setting_right out number a t right ready is = by (a.interface == number) right is
   where
-    by : (b : Bool) → (b && is_wrong out a) ≡ false → (if b then Some a.setting else None) ≡ Some t → IsInRange t
-    by true right is = let same : a.setting ≡ t = cc in subst IsInRange same (right_setting out a right ready)
+    by : (b : Bool) → (b && is_wrong out a) ≡ false → (if b then Some a.setting else None) ≡ Some t → IsSettingInRange t
+    by true right is = let same : a.setting ≡ t = cc in subst IsSettingInRange same (right_setting out a right ready)
     by false right is = absurd (cc)
 
 settings_right : (out : Bool) (number : ℕ) (all : List DeclaredSetting) → All (λ a. IsReady a.setting) all
-    → list_any (λ a. a.interface == number && is_wrong out a) all ≡ false → All IsInRange (settings_of all number)
+    → list_any (λ a. a.interface == number && is_wrong out a) all ≡ false → All IsSettingInRange (settings_of all number)
 settings_right out number all ready right =
-    All-filter_map (setting_of number) (λ a. ((a.interface == number && is_wrong out a) ≡ false) × IsReady a.setting) IsInRange
+    All-filter_map (setting_of number) (λ a. ((a.interface == number && is_wrong out a) ≡ false) × IsReady a.setting) IsSettingInRange
     (λ a t both is. setting_right out number a t both.0 both.1 is) all
     (λ k d below. (none_at (λ a. a.interface == number && is_wrong out a) all k d below right, ready k d below))
 
@@ -212,7 +212,7 @@ streams_right blocks each sound k d below =
     let right : list_any (λ a. a.interface == s.number && is_wrong s.out a) all ≡ false =
     ap (λ o. option_map_or (λ (x : StreamInterface). list_any (λ a. a.interface == x.number && is_wrong x.out a) all) o false) (sym (got_at ss k d below))
     ∙ no_interface 13 ss (breaks_u13 all) (endpoints_within blocks sound) k below in
-    subst (All IsInRange) (sym (each_has_its_settings (entities_of blocks) all k d below))
+    subst (All IsSettingInRange) (sym (each_has_its_settings (entities_of blocks) all k d below))
     (settings_right s.out s.number all (all_ready context.DeviceFront blocks each) right)
 
 pub in_range : (function : FunctionFields) → IsSoundFunction function → AreInRange function.streams

@@ -10,7 +10,7 @@ use Rattle.uac_topology_rules.specs.RuleFaults.{rule_fault, broken_ends, broken_
 use Rattle.uac_topology_rules.specs.Rules.{breaks_u2, breaks_u3, breaks_u4, breaks_u6, breaks_u7, breaks_u8, breaks_u9, breaks_u10, breaks_u12, breaks_u13, breaks_u14, exceeds}
 use Rattle.uac_topology_rules.proofs.FirstPlace.{breaks_none, interface_breaks}
 use Rattle.uac_topology_rules.proofs.Sound.{has_names, or_none}
-use Rattle.uac_topology.specs.Topology.{first_broken, IsSound, streams_in}
+use Rattle.uac_topology.specs.Topology.{first_fault_of, IsSound, streams_in}
 
 -- the rules that are used of sound entities, at each place
 pub record KeepsRules (es : List Entity) : Type 0 where
@@ -28,7 +28,7 @@ limits_hold : (blocks : List block.Block) → IsSound blocks
     → (of_entity 14 (entities_of blocks) breaks_u14 ≡ None) × (of_interface 14 (streams_in blocks) exceeds ≡ None)
     × (of_interface 13 (streams_in blocks) (breaks_u13 (declared_settings blocks)) ≡ None)
     × (of_interface 12 (streams_in blocks) (breaks_u12 (entities_of blocks)) ≡ None)
-unfolding first_broken rule_fault broken_ends
+unfolding first_fault_of rule_fault broken_ends
 limits_hold blocks sound =
     let es = entities_of blocks in
     let ss = streams_in blocks in
@@ -67,7 +67,7 @@ pub no_interface : (rule : ℕ) (ss : List StreamInterface) (breaks : List Strea
 no_interface rule ss breaks none k below = none_before rule ss breaks none (suc k) k (omega arith) below
 
 pub rules_hold : (blocks : List block.Block) → IsSound blocks → KeepsRules (entities_of blocks)
-unfolding first_broken rule_fault broken_walks broken_shapes
+unfolding first_fault_of rule_fault broken_walks broken_shapes
 rules_hold blocks sound =
     let es = entities_of blocks in
     let names = or_none (broken_names es) _ sound in

@@ -2,7 +2,7 @@
 -- 2.3.1.6; USB 2.0, 9.6.5 and 9.6.6.
 use Rattle.std.specs.Prelude.{◌≡◌, ℕ, ◌≤◌, Bool, true, false, nat_eq, List, ◌∷◌, length, map, Some}
 use Rattle.std.specs.List.{All, IsDistinct, range_with_len}
-use Rattle.uac_descriptor.specs.BlockFields.{IsHighSpeed, IsFormat}
+use Rattle.uac_descriptor.specs.BlockFields.{IsHighSpeed, IsTypeOneFormat}
 use Rattle.uac_descriptor.specs.declared.standard.Endpoint.{Endpoint}
 use Rattle.uac_descriptor.specs.declared.streaming.General.{General}
 use Rattle.uac_descriptor.specs.declared.streaming.TypeOne.{TypeOne}
@@ -37,14 +37,14 @@ abbrev pub HaveChannels : List Entity → Type 0
 HaveChannels entities = All (λ e. is_clock e.kind ≡ false → (1 ≤ e.cluster.channels) × (e.cluster.channels ≤ 32)) entities
 
 -- the numbers of a setting's format and of its endpoints are in range
-pub record IsInRange (s : Setting) : Type 0 where
-  pub format : (f : TypeOne) → s.format ≡ Some f → IsFormat f
+pub record IsSettingInRange (s : Setting) : Type 0 where
+  pub format : (f : TypeOne) → s.format ≡ Some f → IsTypeOneFormat f
   pub first : (e : Endpoint) → s.first ≡ Some e → IsHighSpeed e
   pub second : (e : Endpoint) → s.second ≡ Some e → IsHighSpeed e
 
 -- each setting of each streaming interface is so
 abbrev pub AreInRange : List StreamInterface → Type 0
-AreInRange streams = All (λ s. All IsInRange s.settings) streams
+AreInRange streams = All (λ s. All IsSettingInRange s.settings) streams
 
 -- a link is to this terminal, an entity that is a USB streaming terminal
 pub record IsLink (entities : List Entity) (terminal link : ℕ) : Type 0 where

@@ -5,7 +5,7 @@ use Rattle.std.specs.Option.{option_and_then, option_map}
 use Rattle.uac_descriptor.specs.Classes.{is_control_interface}
 use Rattle.uac_descriptor.specs.WellFormed.{AreWellFormed}
 use Rattle.uac_descriptor.specs.declared.block.Block as block
-use Rattle.uac_descriptor.specs.Kinds.{configuration_of}
+use Rattle.uac_descriptor.specs.Kinds.{as_configuration}
 use Rattle.uac_descriptor.specs.BlockTurns.{interface_of}
 use Rattle.uac_walk.specs.Cycles.{HasCycle}
 use Rattle.uac_entities.specs.Entities.{entities_of}
@@ -28,7 +28,7 @@ control_number b = option_and_then (λ i. cond (is_control_interface i) (Some i.
 
 -- the bytes of a configuration (USB 2.0, 9.6.3)
 unfoldable pub total_length : block.Block → Option ℕ
-total_length b = option_map (λ c. c.total) (configuration_of b)
+total_length b = option_map (λ c. c.total) (as_configuration b)
 
 -- the first that some block gives, 0 where none gives one
 abbrev pub first_given : (block.Block → Option ℕ) → List block.Block → ℕ
@@ -39,12 +39,12 @@ abbrev pub streams_in : List block.Block → List StreamInterface
 streams_in blocks = streaming_interfaces_of (entities_of blocks) (declared_settings blocks)
 
 -- the least broken rule with its first offender in block order
-unfoldable pub first_broken : List block.Block → Option TopologyFault
-first_broken blocks = rule_fault (entities_of blocks) (declared_settings blocks) (streams_in blocks)
+unfoldable pub first_fault_of : List block.Block → Option TopologyFault
+first_fault_of blocks = rule_fault (entities_of blocks) (declared_settings blocks) (streams_in blocks)
 
 -- no rule is broken
 abbrev pub IsSound : List block.Block → Type 0
-IsSound blocks = first_broken blocks ≡ None
+IsSound blocks = first_fault_of blocks ≡ None
 
 -- the function is that of the blocks
 pub record IsFunctionOf (function : FunctionFields) (blocks : List block.Block) : Type 0 where
@@ -69,7 +69,7 @@ SoundHasNoCycle = (blocks : List block.Block) → IsSound blocks → HasNoCycle 
 
 -- the least broken rule is this one
 abbrev pub IsRefusedBy : ℕ → List block.Block → Type 0
-IsRefusedBy rule blocks = (fault : TopologyFault) × (first_broken blocks ≡ Some fault) × (fault.rule ≡ rule)
+IsRefusedBy rule blocks = (fault : TopologyFault) × (first_fault_of blocks ≡ Some fault) × (fault.rule ≡ rule)
 
 -- where names are in order, U6 refuses exactly the blocks whose signal links have a cycle, and U7 exactly those whose
 -- clock links alone have one

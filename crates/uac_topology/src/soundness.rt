@@ -1,7 +1,7 @@
 // The rules one after the other.
 ghost use Rattle.std.specs.Prelude.{IfOk, IfErr};
 ghost use Rattle.uac_descriptor.specs.WellFormed.{AreWellFormed};
-ghost use Rattle.uac_topology.specs.Topology.{first_broken, IsSound, IsFunctionOf, IsStopAt};
+ghost use Rattle.uac_topology.specs.Topology.{first_fault_of, IsSound, IsFunctionOf, IsStopAt};
 ghost use Rattle.uac_topology.specs.Judged.{IsJudged};
 
 use crate::configuration::{control_interface_of, total_of};
@@ -33,7 +33,7 @@ enum Judged {
 pub fn check(alloc: Global, blocks: &[Block]) -> Result<Function, CheckStop>
     requires { AreWellFormed blocks.now }
     ensures sound { IfOk result (λ function. IsSound blocks.now × IsFunctionOf function blocks.now) }
-    ensures broken { IfErr result (λ stop. IsStopAt stop (first_broken blocks.now)) }
+    ensures broken { IfErr result (λ stop. IsStopAt stop (first_fault_of blocks.now)) }
 {
     match judge(alloc, blocks) {
         Ok(Judged::Sound(function)) => Ok(function),

@@ -80,7 +80,10 @@ fn blocks(alloc: Global, source: u8) -> Result<Vec<Block>, AllocError> {
 }
 
 // What `check` says of well-formed blocks.
-fn judged(alloc: Global, blocks: &[Block]) -> Result<Result<Function, CheckStop>, AllocError> {
+fn judge_blocks(
+    alloc: Global,
+    blocks: &[Block],
+) -> Result<Result<Function, CheckStop>, AllocError> {
     if !are_well_formed(blocks) {
         return Err(AllocError);
     }
@@ -90,7 +93,7 @@ fn judged(alloc: Global, blocks: &[Block]) -> Result<Result<Function, CheckStop>
 #[test]
 fn tells_the_parts_of_a_small_function(rt: HostRuntime) -> Result<(), Fail> {
     let blocks = blocks(rt.alloc(), 2)?;
-    match judged(rt.alloc(), blocks.as_slice())? {
+    match judge_blocks(rt.alloc(), blocks.as_slice())? {
         Ok(function) => {
             assert_eq!(rt; function.entities().len(), 3);
             assert_eq!(rt; function.entities()[2].cluster.channels, 2);
@@ -113,7 +116,7 @@ fn tells_the_parts_of_a_small_function(rt: HostRuntime) -> Result<(), Fail> {
 #[test]
 fn tells_the_terminal_that_names_no_entity(rt: HostRuntime) -> Result<(), Fail> {
     let blocks = blocks(rt.alloc(), 9)?;
-    match judged(rt.alloc(), blocks.as_slice())? {
+    match judge_blocks(rt.alloc(), blocks.as_slice())? {
         Ok(_) => assert!(rt; false),
         Err(stop) => assert_eq!(rt;
             stop,

@@ -10,7 +10,7 @@ use Rattle.uac_topology_rules.specs.Table.{at, nothing}
 use Rattle.uac_topology_rules.specs.Links.{is_terminal}
 use Rattle.uac_topology_rules.specs.Rules.{names_ninth}
 use Rattle.uac_topology_rules.specs.Domains.{clock_named, each_once, names_new, with_named_clock, domains_of, IsDomains}
-use Rattle.uac_topology_rules.proofs.EachOnce.{each_once-push}
+use Rattle.uac_topology_rules.proofs.DomainsLemmas.{each_once-push}
 
 -- one more entity
 pub domains_of-push : (es : List Entity) (e : Entity) → domains_of (es ++ e ∷ []) ≡ with_named_clock (domains_of es) e

@@ -8,10 +8,10 @@ pub mod Along
 pub mod Told
 pub mod KnownSteps
 pub mod Products
-pub mod EachOnce
+pub mod DomainsLemmas
 pub mod DomainSteps
 pub mod StreamSteps
-pub mod Channels
+pub mod TableLemmas
 pub mod ClusterTable
 pub mod Headset
 pub mod OneRuleBroken

@@ -7,7 +7,7 @@ use Rattle.std.proofs.lemmas.List.{get_or_default}
 use Rattle.std.proofs.lemmas.Option.{slice_get_read}
 use Rattle.uac_entities.specs.declared.stream.Setting.{Setting}
 use Rattle.uac_entities.specs.EntityInterfaces.{link_of, links_of}
-use Rattle.uac_entities.proofs.BlocksFollowing.{filter_map_at}
+use Rattle.uac_entities.proofs.EntitySettingsLemmas.{filter_map_at}
 use Rattle.uac_topology_rules.specs.Rules.{at_stream}
 use Rattle.uac_topology_rules.specs.Offenders.{number_at}
 

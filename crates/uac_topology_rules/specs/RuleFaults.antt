@@ -18,14 +18,14 @@ of_interface rule streams breaks = option_map (λ number. record { rule = rule; 
     (interface_offender streams (breaks streams))
 
 -- the first of some faults
-abbrev pub least : List (Option TopologyFault) → Option TopologyFault
-least [] = None
-least (fault ∷ faults) = option_or fault (least faults)
+abbrev pub first_some : List (Option TopologyFault) → Option TopologyFault
+first_some [] = None
+first_some (fault ∷ faults) = option_or fault (first_some faults)
 
 -- what ids name
 unfoldable pub broken_names : List Entity → Option TopologyFault
 broken_names entities =
-    least (
+    first_some (
     of_entity 1 entities rules.breaks_u1
     ∷ of_entity 2 entities rules.breaks_u2
     ∷ of_entity 3 entities rules.breaks_u3
@@ -35,12 +35,12 @@ broken_names entities =
 
 -- where links lead
 unfoldable pub broken_walks : List Entity → Option TopologyFault
-broken_walks entities = least (of_entity 6 entities rules.breaks_u6 ∷ of_entity 7 entities rules.breaks_u7 ∷ [])
+broken_walks entities = first_some (of_entity 6 entities rules.breaks_u6 ∷ of_entity 7 entities rules.breaks_u7 ∷ [])
 
 -- clusters, sizes and clocks
 unfoldable pub broken_shapes : List Entity → Option TopologyFault
 broken_shapes entities =
-    least (
+    first_some (
     of_entity 8 entities rules.breaks_u8
     ∷ of_entity 9 entities rules.breaks_u9
     ∷ of_entity 10 entities rules.breaks_u10
@@ -50,7 +50,7 @@ broken_shapes entities =
 -- streaming interfaces, and then the limits
 unfoldable pub broken_ends : List Entity → List DeclaredSetting → List StreamInterface → Option TopologyFault
 broken_ends entities all streams =
-    least (
+    first_some (
     of_interface 12 streams (rules.breaks_u12 entities)
     ∷ of_interface 13 streams (rules.breaks_u13 all)
     ∷ of_entity 14 entities rules.breaks_u14
@@ -60,4 +60,4 @@ broken_ends entities all streams =
 -- the least broken rule with its first offender
 unfoldable pub rule_fault : List Entity → List DeclaredSetting → List StreamInterface → Option TopologyFault
 rule_fault entities all streams =
-    least (broken_names entities ∷ broken_walks entities ∷ broken_shapes entities ∷ broken_ends entities all streams ∷ [])
+    first_some (broken_names entities ∷ broken_walks entities ∷ broken_shapes entities ∷ broken_ends entities all streams ∷ [])

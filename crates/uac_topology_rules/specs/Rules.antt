@@ -183,21 +183,21 @@ breaks_u12 entities streams place =
     || (not (s.terminal == 0) && list_any (λ d. d.terminal == s.terminal) (take place streams))) false streams place
 
 -- an isochronous endpoint of this direction, bit 7 of the address being 1 for IN
-abbrev pub is_isochronous : Bool → Endpoint → Bool
-is_isochronous out e = transfer_type e.attributes == 1 && (if out then nat_lt e.address 128 else not (nat_lt e.address 128))
+abbrev pub is_isochronous_to : Bool → Endpoint → Bool
+is_isochronous_to out e = transfer_type e.attributes == 1 && (if out then nat_lt e.address 128 else not (nat_lt e.address 128))
 
 -- an endpoint of data, or of implicit feedback data
 abbrev pub carries_data : Bool → Endpoint → Bool
-carries_data out e = is_isochronous out e && (usage_type e.attributes == 0 || usage_type e.attributes == 2)
+carries_data out e = is_isochronous_to out e && (usage_type e.attributes == 0 || usage_type e.attributes == 2)
 
 -- an endpoint of feedback
 abbrev pub carries_feedback : Bool → Endpoint → Bool
-carries_feedback out e = is_isochronous out e && usage_type e.attributes == 1
+carries_feedback out e = is_isochronous_to out e && usage_type e.attributes == 1
 
 -- the endpoints of a setting are not those that it may have
 unfoldable pub is_wrong : Bool → DeclaredSetting → Bool
 is_wrong out a =
-    not (a.declared == a.endpoints)
+    not (a.endpoint_count == a.endpoints)
     || ((a.setting.number == 0 && not (a.endpoints == 0))
     || (option_map_or (λ e. not (carries_data out e)) a.setting.first false
     || option_map_or (λ e. not (carries_feedback (not out) e)) a.setting.second false))

@@ -169,17 +169,17 @@ fn breaks_u13(all: &[DeclaredSetting], streams: &[StreamInterface], place: usize
 fn has_wrong_endpoints(all: &[DeclaredSetting], number: u8, out: bool) -> bool
     ensures { result ≡ list_any (λ a. a.interface == number && rules.is_wrong out a) all.now }
 {
-    all.iter().any(|alternate| alternate.interface == number && is_wrong(out, alternate))
+    all.iter().any(|declared| declared.interface == number && is_wrong(out, declared))
 }
 
 #[tactic(auto, unfolding(crate::specs::Rules::is_wrong))]
-fn is_wrong(out: bool, alternate: &DeclaredSetting) -> bool
-    ensures { result ≡ rules.is_wrong out alternate.now }
+fn is_wrong(out: bool, declared: &DeclaredSetting) -> bool
+    ensures { result ≡ rules.is_wrong out declared.now }
 {
-    usize::from(alternate.declared) != alternate.endpoints
-        || ((alternate.setting.number == 0 && alternate.endpoints != 0)
-            || (is_wrong_first(out, &alternate.setting.first)
-                || is_wrong_second(out, &alternate.setting.second)))
+    usize::from(declared.endpoint_count) != declared.endpoints
+        || ((declared.setting.number == 0 && declared.endpoints != 0)
+            || (is_wrong_first(out, &declared.setting.first)
+                || is_wrong_second(out, &declared.setting.second)))
 }
 
 fn is_wrong_first(out: bool, endpoint: &Option<Endpoint>) -> bool
@@ -204,17 +204,17 @@ fn carries_data(out: bool, endpoint: &Endpoint) -> bool
     ensures { result ≡ rules.carries_data out endpoint.now }
 {
     let bits = EndpointBits::of(endpoint.attributes);
-    is_isochronous(out, endpoint) && (bits.is_data() || bits.is_implicit_feedback())
+    is_isochronous_to(out, endpoint) && (bits.is_data() || bits.is_implicit_feedback())
 }
 
 fn carries_feedback(out: bool, endpoint: &Endpoint) -> bool
     ensures { result ≡ rules.carries_feedback out endpoint.now }
 {
-    is_isochronous(out, endpoint) && EndpointBits::of(endpoint.attributes).is_feedback()
+    is_isochronous_to(out, endpoint) && EndpointBits::of(endpoint.attributes).is_feedback()
 }
 
-fn is_isochronous(out: bool, endpoint: &Endpoint) -> bool
-    ensures { result ≡ rules.is_isochronous out endpoint.now }
+fn is_isochronous_to(out: bool, endpoint: &Endpoint) -> bool
+    ensures { result ≡ rules.is_isochronous_to out endpoint.now }
 {
     EndpointBits::of(endpoint.attributes).is_isochronous() && goes(out, endpoint.address)
 }

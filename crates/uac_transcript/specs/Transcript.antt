@@ -4,8 +4,8 @@ use Rattle.std.specs.Int.{bytes_high_first}
 use Rattle.hex.specs.Hex.{encode_lower}
 use Rattle.uac_edges.specs.Numerals.{numeral}
 use Rattle.uac_units.specs.Hearing.{Reading}
-use Rattle.uac_units.specs.declared.hearing.MeterKind.{MeterKind}
-use Rattle.uac_units.specs.declared.hearing.MeterKind.TheVariants.{Peak, Clipped, Sum}
+use Rattle.uac_units.specs.declared.meter.MeterKind.{MeterKind}
+use Rattle.uac_units.specs.declared.meter.MeterKind.TheVariants.{Peak, Clipped, Sum}
 use Rattle.uac_transcript.specs.declared.packets.PrintedArrival.{PrintedArrival}
 use Rattle.uac_transcript.specs.declared.packets.PrintedArrival.TheVariants as arrivals
 use Rattle.uac_transcript.specs.declared.report.StreamCounts.{StreamCounts}

@@ -167,7 +167,7 @@ pub(crate) fn give(device: &mut Device, terminal: u8, samples: &[i32]) -> bool {
 }
 
 /// Whether an output jack last played these samples.
-pub(crate) fn played(device: &Device, terminal: u8, samples: &[i32]) -> bool {
+pub(crate) fn has_played(device: &Device, terminal: u8, samples: &[i32]) -> bool {
     match device.played(terminal) {
         Some(frame) => frame.as_slice() == samples,
         None => false,
@@ -192,16 +192,16 @@ pub(crate) fn tick(
 fn play_a_frame(rt: &impl Abort, device: &mut Device, rack: &Rack, meters: &mut Meters)
     requires { IsFitted (λ v x. (⟦<dyn Unit as Unit>⟧ v).kind_of x) rack.now }
 {
-    assert!(rt; played(device, 4, &[0, 0, 0]));
+    assert!(rt; has_played(device, 4, &[0, 0, 0]));
     assert!(rt; give(device, 2, &[-3, 100, 2147483647]));
     assert!(rt; tick(device, 9, rack, meters).1 == 0);
-    assert!(rt; played(device, 4, &[0, 0, 0]));
+    assert!(rt; has_played(device, 4, &[0, 0, 0]));
     for _each in 0..2 {
         let (ticked, steps) = tick(device, 1, rack, meters);
         assert!(rt; ticked == (Ticked { under: 0, over: 0 }));
         assert!(rt; steps == 1);
     }
-    assert!(rt; played(device, 4, &[-3, 100, 2147483647]));
+    assert!(rt; has_played(device, 4, &[-3, 100, 2147483647]));
     assert!(rt; device.played(2).is_none());
     assert!(rt; device.played(5).is_none());
     expect_readings(rt, meters);

@@ -142,7 +142,7 @@ fn function(alloc: Global, trial: Trial) -> Result<Function, AllocError> {
 }
 
 /// The controls of a function after these changes.
-fn changed(
+fn with_change(
     alloc: Global,
     function: &Function,
     changes: &[(u8, u8, u8, i32)],
@@ -158,7 +158,7 @@ fn changed(
 }
 
 /// The wires of a function with (1, -1) at jack 2 and 65536 at jack 5.
-fn fed(alloc: Global, function: &Function) -> Result<Wires, AllocError>
+fn fed_wires(alloc: Global, function: &Function) -> Result<Wires, AllocError>
     ensures { IfOk result (λ wires. AreWiresOf function.now.entities wires) }
 {
     let mut wires = match Wires::new(alloc, function) {
@@ -244,7 +244,7 @@ fn tick_wires(
 ) -> Result<(), AllocError>
     requires { IsFitted (λ v x. (⟦<dyn Unit as Unit>⟧ v).kind_of x) rack.now }
 {
-    let mut wires = fed(alloc, function)?;
+    let mut wires = fed_wires(alloc, function)?;
     let ticked = tick_once(alloc, function, store, rack, by_jobs, &mut wires);
     look(rt, &wires, ticked, wanted)
 }
@@ -261,7 +261,7 @@ fn expect_tick(
 ) -> Result<(), AllocError>
     requires { IsFitted (λ v x. (⟦<dyn Unit as Unit>⟧ v).kind_of x) rack.now }
 {
-    let store = changed(alloc, function, changes)?;
+    let store = with_change(alloc, function, changes)?;
     tick_wires(rt, alloc, function, &store, rack, by_jobs, wanted)
 }
 

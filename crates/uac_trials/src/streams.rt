@@ -4,7 +4,7 @@
 ghost use Rattle.uac_units.specs.Fitting.{IsFitted};
 
 use crate::blocks::{endpoint, pcm, push, push_format, push_two_ways, streaming};
-use crate::device::{Trial, ask, give, played, tick, try_out};
+use crate::device::{Trial, ask, give, has_played, tick, try_out};
 use arrayvec::ArrayVec;
 use std::alloc::AllocError;
 use std::process::Abort;
@@ -63,7 +63,7 @@ fn fills(device: &mut Device, rack: &Rack, meters: &mut Meters, packets: u8) -> 
         let arrival = device.microframe_out(7, Some(&packet(number.wrapping_mul(6), 6)));
         let ticked = tick(device, 1, rack, meters).0;
         device.settle(7);
-        if arrival != Arrival::Taken || ticked.under != 0 || !played(device, 3, &[0]) {
+        if arrival != Arrival::Taken || ticked.under != 0 || !has_played(device, 3, &[0]) {
             return false;
         }
     }
@@ -76,7 +76,7 @@ fn plays_on(device: &mut Device, rack: &Rack, meters: &mut Meters, count: u8) ->
 {
     for number in 0..count {
         let ticked = tick(device, 1, rack, meters).0;
-        if ticked != (Ticked { under: 0, over: 0 }) || !played(device, 3, &[sample(number)]) {
+        if ticked != (Ticked { under: 0, over: 0 }) || !has_played(device, 3, &[sample(number)]) {
             return false;
         }
     }
@@ -119,7 +119,7 @@ fn plays(device: &mut Device, rack: &Rack, meters: &mut Meters) -> bool
         && ticks_on(device, rack, meters, 158).under == 0
         && ticks_on(device, rack, meters, 1).under == 1
         && device.target(7).is_none()
-        && played(device, 3, &[0])
+        && has_played(device, 3, &[0])
 }
 
 /// Whether jack 4 gives the samples from 1 on, one at each tick.

@@ -1,8 +1,8 @@
 -- What a meter's value is bounded by.
 use Rattle.std.proofs.Common.{◌≡◌, arith, ℕ, ◌+◌, ◌^◌, ◌<◌, ◌≤◌, if◌then◌else◌, max, ℤ, pos, List, [], ◌∷◌, count_by, get_or, length, unsigned_abs}
 use Rattle.std.specs.List.{sum_by}
-use Rattle.uac_units.specs.declared.hearing.MeterKind.{MeterKind}
-use Rattle.uac_units.specs.declared.hearing.MeterKind.TheVariants.{Peak, Clipped, Sum}
+use Rattle.uac_units.specs.declared.meter.MeterKind.{MeterKind}
+use Rattle.uac_units.specs.declared.meter.MeterKind.TheVariants.{Peak, Clipped, Sum}
 use Rattle.uac_units.specs.Hearing.{value_after_hearing, is_clipped, peak_of}
 
 pub value_after_hearing-rises : (kind : MeterKind) (value : ℕ) (frame : List ℤ) → value < 2 ^ 64 → value ≤ value_after_hearing kind value frame

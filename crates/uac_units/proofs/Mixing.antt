@@ -7,14 +7,14 @@ use Rattle.std.proofs.lemmas.List.FromFn.{map-range_with_len_more}
 use Rattle.std.proofs.lemmas.Int.{ints}
 use Rattle.uac_units.specs.declared.jobs.Job.{Job}
 use Rattle.std.specs.Simd.Lanes.{Each1, zip2}
-use Rattle.uac_units.specs.SampleLanes.{HasRoom, eight}
+use Rattle.uac_units.specs.SampleLanes.{SumFits, eight}
 use Rattle.uac_units.specs.Rendering.{input}
-use Rattle.uac_gain.specs.Gain.{product_floor, scaled}
-use Rattle.uac_units.proofs.SampleLanesLemmas.{saturated-mag, eight-same, eight-each}
+use Rattle.uac_gain.specs.Gain.{product_floor, scaled_sample}
+use Rattle.uac_units.proofs.SampleLanesLemmas.{nearest_in_32_bits-mag, eight-same, eight-each}
 
 -- one input, scaled by the gain of its node
 abbrev pub node : Job → List ℤ → ℕ → ℕ → ℤ
-node job pins channel at = scaled (input pins at) (slice_index job.gains.items (at * job.outputs + channel))
+node job pins channel at = scaled_sample (input pins at) (slice_index job.gains.items (at * job.outputs + channel))
 
 -- the first n inputs together
 abbrev pub mixed_front : Job → List ℤ → ℕ → ℕ → ℤ
@@ -45,27 +45,27 @@ mixed-bound job pins channel zero = omega (arith, ints)
 mixed-bound job pins channel (suc n) =
     let sum = mixed_front job pins channel n in
     let sample = node job pins channel n in
-    let fits : mag sample < 2147483648 = saturated-mag (product_floor (input pins n) (slice_index job.gains.items (n * job.outputs + channel))) in
+    let fits : mag sample < 2147483648 = nearest_in_32_bits-mag (product_floor (input pins n) (slice_index job.gains.items (n * job.outputs + channel))) in
     let next : suc n ≡ n + 1 = omega arith in
     let more : unsigned_abs (mixed_front job pins channel (suc n)) ≡ unsigned_abs (sum +ℤ sample) =
     ap (λ k. unsigned_abs (mixed_front job pins channel k)) next ∙ ap unsigned_abs (mixed_front_more job pins channel n) in
     let bound = sum-bound sum sample n (mixed-bound job pins channel n) fits in
     omega (arith, more, bound)
 
-pub mixed-room : (job : Job) (pins : List ℤ) (from at : ℕ) → at ≤ 256 → Each1 HasRoom (eight (λ lane. mixed_front job pins (from + lane) at))
+pub mixed-room : (job : Job) (pins : List ℤ) (from at : ℕ) → at ≤ 256 → Each1 SumFits (eight (λ lane. mixed_front job pins (from + lane) at))
 mixed-room job pins from at few =
-    eight-each HasRoom (λ lane. mixed_front job pins (from + lane) at)
+    eight-each SumFits (λ lane. mixed_front job pins (from + lane) at)
     (λ lane. let bound = mixed-bound job pins (from + lane) at in omega (arith, bound))
 
 -- eight sums and one more input, scaled by the gains of its nodes
 pub nodes-more : (job : Job) (pins : List ℤ) (from at : ℕ) (sums : List ℤ) (gains : List ℕ) → sums ≡ eight (λ lane. mixed_front job pins (from + lane) at)
     → gains ≡ eight (λ lane. slice_index job.gains.items (at * job.outputs + from + lane))
-    → zip2 (λ sum gain. sum +ℤ scaled (input pins at) gain) sums gains ≡ eight (λ lane. mixed_front job pins (from + lane) (at + 1))
+    → zip2 (λ sum gain. sum +ℤ scaled_sample (input pins at) gain) sums gains ≡ eight (λ lane. mixed_front job pins (from + lane) (at + 1))
 nodes-more job pins from at sums gains e f =
-    ap (λ ss. zip2 (λ sum gain. sum +ℤ scaled (input pins at) gain) ss gains) e
-    ∙ ap (zip2 (λ sum gain. sum +ℤ scaled (input pins at) gain) (eight (λ lane. mixed_front job pins (from + lane) at))) f
-    ∙ eight-same (λ lane. mixed_front job pins (from + lane) at +ℤ scaled (input pins at) (slice_index job.gains.items (at * job.outputs + from + lane)))
+    ap (λ ss. zip2 (λ sum gain. sum +ℤ scaled_sample (input pins at) gain) ss gains) e
+    ∙ ap (zip2 (λ sum gain. sum +ℤ scaled_sample (input pins at) gain) (eight (λ lane. mixed_front job pins (from + lane) at))) f
+    ∙ eight-same (λ lane. mixed_front job pins (from + lane) at +ℤ scaled_sample (input pins at) (slice_index job.gains.items (at * job.outputs + from + lane)))
     (λ lane. mixed_front job pins (from + lane) (at + 1))
     (λ lane. let place : at * job.outputs + from + lane ≡ at * job.outputs + (from + lane) = omega arith in
-    ap (λ i. mixed_front job pins (from + lane) at +ℤ scaled (input pins at) (slice_index job.gains.items i)) place
+    ap (λ i. mixed_front job pins (from + lane) at +ℤ scaled_sample (input pins at) (slice_index job.gains.items i)) place
     ∙ sym (mixed_front_more job pins (from + lane) at))

@@ -8,8 +8,8 @@ use Rattle.std.specs.Simd.Lanes.{Each1, Each2, chunk, zip2}
 use Rattle.std.specs.Prelude.{replicate}
 use Rattle.std.specs.List.{range_with_len}
 use Rattle.std.proofs.lemmas.Simd.{Each1-weaker, Each2-of, get_or-chunk}
-use Rattle.uac_gain.specs.Gain.{floor_div, saturated, scaled}
-use Rattle.uac_units.specs.SampleLanes.{HasRoom, IsGain, eight, floored_by, scaled_by}
+use Rattle.uac_gain.specs.Gain.{floor_div, nearest_in_32_bits, scaled_sample}
+use Rattle.uac_units.specs.SampleLanes.{SumFits, IsGain, eight, floored_by, scaled_by}
 
 -- a sample of 32 bits and a gain
 abbrev pub Small : ℤ → ℤ → Type 0
@@ -87,25 +87,25 @@ low-of b z = cond (lib.Lanes.top 63 (cond b 18446744073709551615 0)) 18446744071
 abbrev high-of : Bool → ℕ → ℕ
 high-of b low = cond (lib.Lanes.top 63 (cond b 18446744073709551615 0)) low 2147483647
 
-least-is : (z : ℤ) → lt_z z (negsuc 2147483647) ≡ true → negsuc 2147483647 ≡ saturated z
+least-is : (z : ℤ) → lt_z z (negsuc 2147483647) ≡ true → negsuc 2147483647 ≡ nearest_in_32_bits z
 least-is z e = grind (arith, ints)
 
-most-is : (z : ℤ) → lt_z z (pos 2147483647) ≡ false → pos 2147483647 ≡ saturated z
+most-is : (z : ℤ) → lt_z z (pos 2147483647) ≡ false → pos 2147483647 ≡ nearest_in_32_bits z
 most-is z e = grind (arith, ints)
 
-inside-is : (z : ℤ) → lt_z z (negsuc 2147483647) ≡ false → lt_z z (pos 2147483647) ≡ true → z ≡ saturated z
+inside-is : (z : ℤ) → lt_z z (negsuc 2147483647) ≡ false → lt_z z (pos 2147483647) ≡ true → z ≡ nearest_in_32_bits z
 inside-is z e f = grind (arith, ints)
 
-clamped : (z : ℤ) → mag z < 2 ^ 63 → to_z w64 (high-of (lt_z (to_z w64 (low-of (lt_z (to_z w64 (of_z w64 z)) (negsuc 2147483647)) z)) (pos 2147483647)) (low-of (lt_z (to_z w64 (of_z w64 z)) (negsuc 2147483647)) z)) ≡ saturated z
+clamped : (z : ℤ) → mag z < 2 ^ 63 → to_z w64 (high-of (lt_z (to_z w64 (low-of (lt_z (to_z w64 (of_z w64 z)) (negsuc 2147483647)) z)) (pos 2147483647)) (low-of (lt_z (to_z w64 (of_z w64 z)) (negsuc 2147483647)) z)) ≡ nearest_in_32_bits z
 clamped z h =
     ap (λ x. to_z w64 (high-of (lt_z (to_z w64 (low-of (lt_z x (negsuc 2147483647)) z)) (pos 2147483647)) (low-of (lt_z x (negsuc 2147483647)) z))) (back z h)
     ∙ by (lt_z z (negsuc 2147483647)) refl
   where
-    by_upper : (b : Bool) → lt_z z (negsuc 2147483647) ≡ false → lt_z z (pos 2147483647) ≡ b → to_z w64 (high-of b (of_z w64 z)) ≡ saturated z
+    by_upper : (b : Bool) → lt_z z (negsuc 2147483647) ≡ false → lt_z z (pos 2147483647) ≡ b → to_z w64 (high-of b (of_z w64 z)) ≡ nearest_in_32_bits z
     by_upper true e f = back z h ∙ inside-is z e f
     by_upper false e f = most-is z f
 
-    by : (b : Bool) → lt_z z (negsuc 2147483647) ≡ b → to_z w64 (high-of (lt_z (to_z w64 (low-of b z)) (pos 2147483647)) (low-of b z)) ≡ saturated z
+    by : (b : Bool) → lt_z z (negsuc 2147483647) ≡ b → to_z w64 (high-of (lt_z (to_z w64 (low-of b z)) (pos 2147483647)) (low-of b z)) ≡ nearest_in_32_bits z
     by true e = least-is z e
     by false e = ap (λ x. to_z w64 (high-of (lt_z x (pos 2147483647)) (of_z w64 z))) (back z h) ∙ by_upper (lt_z z (pos 2147483647)) e refl
 
@@ -118,10 +118,10 @@ highs bits hs = lib.Lanes.sel_l (map (lib.Lanes.top 63) (zip2 (borrow.Rule.Simd.
 abbrev pub clamps : List ℤ → List ℕ → List ℕ → List ℤ
 clamps xs ls hs = map (to_z w64) (highs (lows (map (of_z w64) xs) ls) hs)
 
-pub clamped-lanes : (xs : List ℤ) → Each1 (FitsSigned w64) xs → clamps xs (replicate (length xs) 18446744071562067968) (replicate (length xs) 2147483647) ≡ map saturated xs
+pub clamped-lanes : (xs : List ℤ) → Each1 (FitsSigned w64) xs → clamps xs (replicate (length xs) 18446744071562067968) (replicate (length xs) 2147483647) ≡ map nearest_in_32_bits xs
 clamped-lanes [] each = refl
 clamped-lanes (x ∷ xs) each =
-    ap (λ z. z ∷ clamps xs (replicate (length xs) 18446744071562067968) (replicate (length xs) 2147483647)) (clamped x each.0.sfits) ∙ ap (λ zs. saturated x ∷ zs) (clamped-lanes xs each.1)
+    ap (λ z. z ∷ clamps xs (replicate (length xs) 18446744071562067968) (replicate (length xs) 2147483647)) (clamped x each.0.sfits) ∙ ap (λ zs. nearest_in_32_bits x ∷ zs) (clamped-lanes xs each.1)
 
 pub product_floor-fits : (samples gains : List ℤ) → Each2 Small samples gains → Each1 (FitsSigned w64) (zip2 floored_by samples gains)
 product_floor-fits [] gains small = tt
@@ -131,10 +131,10 @@ product_floor-fits (s ∷ ss) (g ∷ gs) small = (record { sfits = floor-small (
 pub small-lanes : (samples gains : List ℤ) → Each1 (FitsSigned w32) samples → Each1 IsGain gains → Each2 Small samples gains
 small-lanes samples gains fits are = Each2-of (FitsSigned w32) IsGain Small (λ s g a b. (a, b)) samples gains fits are
 
-pub saturated-zip2 : (samples gains : List ℤ) → map saturated (zip2 floored_by samples gains) ≡ zip2 scaled_by samples gains
-saturated-zip2 [] gains = refl
-saturated-zip2 (s ∷ ss) [] = refl
-saturated-zip2 (s ∷ ss) (g ∷ gs) = ap (λ zs. scaled_by s g ∷ zs) (saturated-zip2 ss gs)
+pub nearest_in_32_bits-zip2 : (samples gains : List ℤ) → map nearest_in_32_bits (zip2 floored_by samples gains) ≡ zip2 scaled_by samples gains
+nearest_in_32_bits-zip2 [] gains = refl
+nearest_in_32_bits-zip2 (s ∷ ss) [] = refl
+nearest_in_32_bits-zip2 (s ∷ ss) (g ∷ gs) = ap (λ zs. scaled_by s g ∷ zs) (nearest_in_32_bits-zip2 ss gs)
 
 -- ---- vectors that are handed on
 
@@ -158,13 +158,13 @@ handed-samples xs fits = handed xs (wide-lanes xs fits)
 pub handed-gains : (xs : List ℤ) → Each1 IsGain xs → map (to_z w64) (map (of_z w64) xs) ≡ xs
 handed-gains xs are = handed xs (Each1-weaker IsGain (FitsSigned w64) gain-fits xs are)
 
-pub saturated-mag : (x : ℤ) → mag (saturated x) < 2 ^ 31
-saturated-mag (pos n) = grind (arith, ints)
-saturated-mag (negsuc n) = grind (arith, ints)
+pub nearest_in_32_bits-mag : (x : ℤ) → mag (nearest_in_32_bits x) < 2 ^ 31
+nearest_in_32_bits-mag (pos n) = grind (arith, ints)
+nearest_in_32_bits-mag (negsuc n) = grind (arith, ints)
 
-pub saturated-fits : (xs : List ℤ) → Each1 (FitsSigned w32) (map saturated xs)
-saturated-fits [] = tt
-saturated-fits (x ∷ xs) = (record { sfits = saturated-mag x }, saturated-fits xs)
+pub nearest_in_32_bits-fits : (xs : List ℤ) → Each1 (FitsSigned w32) (map nearest_in_32_bits xs)
+nearest_in_32_bits-fits [] = tt
+nearest_in_32_bits-fits (x ∷ xs) = (record { sfits = nearest_in_32_bits-mag x }, nearest_in_32_bits-fits xs)
 
 -- ---- samples in lanes of 32 bits
 
@@ -184,25 +184,25 @@ narrowed (x ∷ xs) fits =
 
 -- ---- sums
 
-abs-sum : (s x : ℤ) → HasRoom s → mag x < 2 ^ 31 → unsigned_abs (s +ℤ x) ≤ 2 ^ 41
+abs-sum : (s x : ℤ) → SumFits s → mag x < 2 ^ 31 → unsigned_abs (s +ℤ x) ≤ 2 ^ 41
 abs-sum s x room fits = omega (arith, ints)
 
 abs-mag : (s : ℤ) → unsigned_abs s ≤ 2 ^ 41 → mag s < 2 ^ 63
 abs-mag (pos n) room = omega (arith, ints, room)
 abs-mag (negsuc n) room = omega (arith, ints, room)
 
-small-sum : (s x : ℤ) → HasRoom s → FitsSigned w32 x → mag (s +ℤ x) < 2 ^ 63
+small-sum : (s x : ℤ) → SumFits s → FitsSigned w32 x → mag (s +ℤ x) < 2 ^ 63
 small-sum s x room fits = abs-mag (s +ℤ x) (abs-sum s x room fits.sfits)
 
-room-mag : (s : ℤ) → HasRoom s → mag s < 2 ^ 63
+room-mag : (s : ℤ) → SumFits s → mag s < 2 ^ 63
 room-mag s room = abs-mag s (omega (arith, room))
 
 -- a sum with room, and a sample
 abbrev pub Addable : ℤ → ℤ → Type 0
-Addable s x = HasRoom s × FitsSigned w32 x
+Addable s x = SumFits s × FitsSigned w32 x
 
-pub addable-lanes : (sums samples : List ℤ) → Each1 HasRoom sums → Each1 (FitsSigned w32) samples → Each2 Addable sums samples
-addable-lanes sums samples room fits = Each2-of HasRoom (FitsSigned w32) Addable (λ s x a b. (a, b)) sums samples room fits
+pub addable-lanes : (sums samples : List ℤ) → Each1 SumFits sums → Each1 (FitsSigned w32) samples → Each2 Addable sums samples
+addable-lanes sums samples room fits = Each2-of SumFits (FitsSigned w32) Addable (λ s x a b. (a, b)) sums samples room fits
 
 add_askable : (s x : ℤ) → Addable s x → borrow.Rule.Simd.Lanes.Asks2 (mir.Syntax.add mir.Syntax.signed) (borrow.Table.Row.s_int w64) (borrow.Table.Row.s_int w64) (of_z w64 s) (of_z w64 x)
 add_askable s x h =
@@ -234,8 +234,8 @@ added-fits [] samples small = tt
 added-fits (s ∷ ss) [] small = tt
 added-fits (s ∷ ss) (x ∷ xs) small = (record { sfits = small-sum s x small.0.0 small.0.1 }, added-fits ss xs small.1)
 
-pub room-lanes : (xs : List ℤ) → Each1 HasRoom xs → Each1 (FitsSigned w64) xs
-room-lanes xs room = Each1-weaker HasRoom (FitsSigned w64) (λ x h. record { sfits = room-mag x h }) xs room
+pub room-lanes : (xs : List ℤ) → Each1 SumFits xs → Each1 (FitsSigned w64) xs
+room-lanes xs room = Each1-weaker SumFits (FitsSigned w64) (λ x h. record { sfits = room-mag x h }) xs room
 
 -- ---- lanes that are written out
 
@@ -249,9 +249,9 @@ eight-same f g h = ap eight (λ i lane. h lane i)
 pub eight-each : (P : ℤ → Type 0) (f : ℕ → ℤ) → ((lane : ℕ) → P (f lane)) → Each1 P (eight f)
 eight-each P f h = (h 0, (h 1, (h 2, (h 3, (h 4, (h 5, (h 6, (h 7, tt))))))))
 
-pub scaled-eight : (xs gs : List ℤ) (f : ℕ → ℤ) (g : ℕ → ℕ) → xs ≡ eight f → gs ≡ eight (λ lane. pos (g lane)) → Each1 (FitsSigned w32) xs → Each1 IsGain gs
-    → zip2 scaled_by (given xs) (given gs) ≡ eight (λ lane. scaled (f lane) (g lane))
-scaled-eight xs gs f g e k fits are =
+pub scaled_sample-eight : (xs gs : List ℤ) (f : ℕ → ℤ) (g : ℕ → ℕ) → xs ≡ eight f → gs ≡ eight (λ lane. pos (g lane)) → Each1 (FitsSigned w32) xs → Each1 IsGain gs
+    → zip2 scaled_by (given xs) (given gs) ≡ eight (λ lane. scaled_sample (f lane) (g lane))
+scaled_sample-eight xs gs f g e k fits are =
     ap (λ ys. zip2 scaled_by ys (given gs)) (handed-samples xs fits ∙ e) ∙ ap (λ ys. zip2 scaled_by (eight f) ys) (handed-gains gs are ∙ k)
 
 -- ---- eights in a row

@@ -2,7 +2,7 @@
 use Rattle.std.proofs.Common.{◌≡◌, refl, ℕ, pos, negsuc, List, [], ◌∷◌}
 use Rattle.uac_units.specs.declared.jobs.Job.{Job}
 use Rattle.uac_units.specs.declared.jobs.UnitKind.TheVariants.{Mixer, Selector, Feature, Effect}
-use Rattle.uac_units.specs.declared.hearing.MeterKind.TheVariants.{Peak, Clipped, Sum}
+use Rattle.uac_units.specs.declared.meter.MeterKind.TheVariants.{Peak, Clipped, Sum}
 use Rattle.uac_units.specs.Rendering.{job_samples}
 use Rattle.uac_units.specs.Hearing.{value_after_hearing}
 

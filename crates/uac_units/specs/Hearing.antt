@@ -2,8 +2,8 @@
 use Rattle.std.specs.Prelude.{ℕ, ◌+◌, ◌-◌, ◌^◌, min, max, Bool, ◌||◌, ℤ, pos, negsuc, List, unsigned_abs, count_by}
 use Rattle.std.specs.List.{fold, sum_by}
 use Rattle.std.specs.Ordering.{int_eq}
-use Rattle.uac_units.specs.declared.hearing.MeterKind.{MeterKind}
-use Rattle.uac_units.specs.declared.hearing.MeterKind.TheVariants.{Peak, Clipped, Sum}
+use Rattle.uac_units.specs.declared.meter.MeterKind.{MeterKind}
+use Rattle.uac_units.specs.declared.meter.MeterKind.TheVariants.{Peak, Clipped, Sum}
 
 -- what a meter shows: its kind and its value
 pub record Reading : Type 0 where

@@ -2,7 +2,7 @@
 -- What the program's theorem says: to be read and believed.
 pub mod Fitting
 pub mod Hearing
-pub mod Panel
+pub mod MeterReadings
 pub mod Rendering
 -- What the contracts below them cite: steps of the code, no part of what is promised.
 pub mod SampleLanes

@@ -2,7 +2,7 @@
 -- effect unit). Profile: the arithmetic, and that an effect is always bypassed.
 use Rattle.std.specs.Prelude.{◌≡◌, ℕ, ◌+◌, ◌*◌, ◌≤◌, ℤ, pos, ◌+ℤ◌, List, [], ◌∷◌, ◌++◌, map, length, slice_index, slice_index_or}
 use Rattle.std.specs.List.{fold, range_with_len}
-use Rattle.uac_gain.specs.Gain.{scaled, saturated}
+use Rattle.uac_gain.specs.Gain.{scaled_sample, nearest_in_32_bits}
 use Rattle.uac_units.specs.declared.jobs.Job.{Job}
 use Rattle.uac_units.specs.declared.jobs.UnitKind.{UnitKind}
 use Rattle.uac_units.specs.declared.jobs.UnitKind.TheVariants.{Mixer, Selector, Feature, Effect}
@@ -44,14 +44,15 @@ pub record Inputs : Type 0 where
 abbrev pub job_sum : (ℕ → ℕ → ℕ) → List ℤ → ℕ → ℤ
 job_sum node inputs channel =
     fold (λ sum sample. sum +ℤ sample) (pos 0)
-    (map (λ at. scaled (input inputs at) (node at channel)) (range_with_len 0 (length inputs)))
+    (map (λ at. scaled_sample (input inputs at) (node at channel)) (range_with_len 0 (length inputs)))
 
 -- the sample of an output channel: a mixer's is the saturated sum, a selector's its chosen pin's, a feature's its one source's,
 -- scaled by the channel's gain and then by the master's, an effect's its one source's
 abbrev pub unit_sample : UnitKind → UnitControls → Inputs → ℕ → ℤ
-unit_sample Mixer setting inputs channel = saturated (job_sum setting.node inputs.all channel)
+unit_sample Mixer setting inputs channel = nearest_in_32_bits (job_sum setting.node inputs.all channel)
 unit_sample Selector setting inputs channel = inputs.of_pin setting.chosen channel
-unit_sample Feature setting inputs channel = scaled (scaled (inputs.of_only channel) (setting.own channel)) (setting.master channel)
+unit_sample Feature setting inputs channel = scaled_sample (scaled_sample (inputs.of_only channel) (setting.own channel))
+    (setting.master channel)
 unit_sample Effect setting inputs channel = inputs.of_only channel
 
 -- how a job sets its unit: a mixer's gains stand by inputs, a feature's in turn

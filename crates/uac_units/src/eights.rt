@@ -3,8 +3,8 @@
 ghost use Rattle.std.specs.Prelude.{◌≡◌, ◌+◌, ◌*◌, ◌^◌, ◌<◌, ◌≤◌, pos, ◌+ℤ◌, length, map, slice_index, FitsSigned};
 ghost use Rattle.std.specs.Int.{w32, w64};
 ghost use Rattle.std.specs.Simd.Lanes.{Each1, zip2};
-ghost use Rattle.uac_gain.specs.Gain.{saturated};
-ghost use Rattle.uac_units.specs.SampleLanes.{HasRoom, IsGain, eight, floored_by, scaled_by};
+ghost use Rattle.uac_gain.specs.Gain.{nearest_in_32_bits};
+ghost use Rattle.uac_units.specs.SampleLanes.{SumFits, IsGain, eight, floored_by, scaled_by};
 ghost use Rattle.uac_units.specs.Rendering.{input};
 
 use crate::jobs::{Job, Pins};
@@ -36,7 +36,7 @@ pub(crate) fn multiply_eight(samples: i64x8, gains: i64x8) -> i64x8
 pub(crate) fn saturate_eight(sums: i64x8) -> i64x8
     requires lanes { length sums ≡ 8 }
     requires fits { Each1 (FitsSigned w64) sums }
-    ensures lanes { result ≡ map saturated sums }
+    ensures lanes { result ≡ map nearest_in_32_bits sums }
     ensures fits { Each1 (FitsSigned w32) result }
 {
     sums.simd_clamp(i64x8::splat(i32::MIN as i64), i64x8::splat(i32::MAX as i64))
@@ -45,7 +45,7 @@ pub(crate) fn saturate_eight(sums: i64x8) -> i64x8
 /// Eight sums, each with the sample in its lane added.
 pub(crate) fn add_eight(sums: i64x8, samples: i64x8) -> i64x8
     requires lanes { (length sums ≡ 8) × (length samples ≡ 8) }
-    requires room { Each1 HasRoom sums }
+    requires room { Each1 SumFits sums }
     requires samples { Each1 (FitsSigned w32) samples }
     ensures lanes { result ≡ zip2 ◌+ℤ◌ sums samples }
     ensures fits { Each1 (FitsSigned w64) result }

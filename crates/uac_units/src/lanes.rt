@@ -14,8 +14,8 @@ use crate::eights::{eight_gains, eight_inputs, narrow_eight, saturate_eight, sca
 use crate::jobs::{Job, Pins, UnitKind};
 use crate::nodes::{add_scaled, eight_nodes};
 use crate::plain::mix;
-use crate::rendering::Unit;
 use crate::steps::Steps;
+use crate::unit::Unit;
 use std::simd::prelude::*;
 use uac_gain::scale;
 use uac_pcm::Frame;

@@ -4,7 +4,7 @@ ghost use Rattle.std.specs.Prelude.{◌≡◌, ℕ, ◌+◌, ◌^◌, ◌<◌, �
 ghost use Rattle.std.specs.List.{All};
 ghost use Rattle.uac_units.specs.Hearing.{value_after_hearing};
 ghost use Rattle.uac_units.specs.Rendering.{by_frames, in_a_row, pins_sample, job_samples, set_by, unit_sample};
-ghost use Rattle.uac_units.specs.declared.hearing.MeterKind.{MeterKind};
+ghost use Rattle.uac_units.specs.declared.meter.MeterKind.{MeterKind};
 ghost use Rattle.uac_units.specs.declared.jobs.Job.{Job};
 ghost use Rattle.uac_units.specs.declared.jobs.UnitKind.{UnitKind};
 ghost use Rattle.uac_units.specs.declared.jobs.UnitKind.TheVariants.{Mixer, Selector, Feature, Effect};

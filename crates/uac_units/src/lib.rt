@@ -3,27 +3,27 @@
 
 mod channels;
 mod eights;
-mod hearing;
 mod jobs;
 mod lanes;
 pub mod laws;
+mod meter;
 mod meter_list;
 mod meters;
 mod nodes;
 mod plain;
 mod rack;
-mod rendering;
 mod steps;
+mod unit;
 
-pub use hearing::{Meter, MeterKind};
 pub use jobs::{Job, Pins, UnitKind};
 pub use lanes::{LaneEffect, LaneFeature, LaneMixer, LaneSelector};
+pub use meter::{Meter, MeterKind};
 pub use meter_list::Meters;
 pub use meters::{ClippedMeter, PeakMeter, SumMeter};
 pub use plain::{PlainEffect, PlainFeature, PlainMixer, PlainSelector};
 pub use rack::Rack;
-pub use rendering::Unit;
 pub use steps::Steps;
+pub use unit::Unit;
 
 #[cfg(test)]
 mod tests;

@@ -2,9 +2,9 @@
 
 ghost use Rattle.std.specs.Prelude.{◌≡◌, ◌<◌, length, map, slice_get, Some};
 ghost use Rattle.uac_units.specs.Hearing.{after_hearing};
-ghost use Rattle.uac_units.specs.Panel.{readings, readings_of};
+ghost use Rattle.uac_units.specs.MeterReadings.{readings, readings_of};
 
-use crate::hearing::{Meter, MeterKind};
+use crate::meter::{Meter, MeterKind};
 use uac_pcm::Frame;
 
 /// The meters that hear what a device plays, in a fixed order.

@@ -4,9 +4,9 @@ ghost use Rattle.std.specs.Prelude.{◌≡◌, ◌≤◌, ◌<◌, if◌then◌e
 ghost use Rattle.std.specs.List.{sum_by};
 ghost use Rattle.uac_units.specs.Hearing as spec;
 ghost use Rattle.uac_units.specs.Hearing.{after_hearing, is_clipped};
-ghost use Rattle.uac_units.specs.declared.hearing.MeterKind.TheVariants.{Peak, Clipped, Sum};
+ghost use Rattle.uac_units.specs.declared.meter.MeterKind.TheVariants.{Peak, Clipped, Sum};
 
-use crate::hearing::{Meter, MeterKind};
+use crate::meter::{Meter, MeterKind};
 use uac_pcm::Frame;
 
 /// Keeps the greatest absolute sample that it heard.

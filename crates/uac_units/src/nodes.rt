@@ -3,8 +3,8 @@
 ghost use Rattle.std.specs.Prelude.{◌≡◌, ◌+◌, ◌^◌, ◌<◌, ◌≤◌, ◌+ℤ◌, length, map, slice_index, FitsSigned};
 ghost use Rattle.std.specs.Int.{w32, w64};
 ghost use Rattle.std.specs.Simd.Lanes.{Each1, zip2};
-ghost use Rattle.uac_gain.specs.Gain.{scaled};
-ghost use Rattle.uac_units.specs.SampleLanes.{HasRoom, eight, together};
+ghost use Rattle.uac_gain.specs.Gain.{scaled_sample};
+ghost use Rattle.uac_units.specs.SampleLanes.{SumFits, eight, together};
 
 use crate::eights::{add_eight, multiply_eight, scale_eight};
 use crate::jobs::Job;
@@ -22,8 +22,8 @@ pub(crate) fn eight_nodes(job: &Job, from: usize) -> u32x8
 /// Eight sums, each with the sample added that its lane's gain makes of one input. Eight silent nodes add nothing.
 pub(crate) fn add_scaled(sums: i64x8, sample: i32, gains: u32x8) -> i64x8
     requires lanes { length sums ≡ 8 }
-    requires room { Each1 HasRoom sums }
-    ensures lanes { result ≡ zip2 (λ sum gain. sum +ℤ scaled sample gain) sums gains }
+    requires room { Each1 SumFits sums }
+    ensures lanes { result ≡ zip2 (λ sum gain. sum +ℤ scaled_sample sample gain) sums gains }
     ensures fits { Each1 (FitsSigned w64) result }
 {
     let bits = all_bits(gains);
@@ -44,7 +44,7 @@ fn all_bits(gains: u32x8) -> u32
 /// One sample, scaled by the gain in each of eight lanes, whose bits together are these.
 fn scale_one(sample: i32, gains: u32x8, bits: u32) -> i64x8
     requires { bits ≡ together gains }
-    ensures lanes { result ≡ map (scaled sample) gains }
+    ensures lanes { result ≡ map (scaled_sample sample) gains }
     ensures fits { Each1 (FitsSigned w32) result }
 {
     if bits == UNITY {
@@ -59,7 +59,7 @@ fn scale_one(sample: i32, gains: u32x8, bits: u32) -> i64x8
 /// One sample in each lane whose gain is 0 decibels, and silence in the others.
 fn keep_or_silence(sample: i32, gains: u32x8) -> i64x8
     requires { together gains ≡ 2 ^ 30 }
-    ensures lanes { result ≡ map (scaled sample) gains }
+    ensures lanes { result ≡ map (scaled_sample sample) gains }
     ensures fits { Each1 (FitsSigned w32) result }
 {
     let kept = gains.simd_eq(u32x8::splat(UNITY));
@@ -70,7 +70,7 @@ fn keep_or_silence(sample: i32, gains: u32x8) -> i64x8
 /// One sample, scaled by a gain of less than 0 decibels in each of eight lanes: no product leaves 32 bits.
 fn scale_down(sample: i32, gains: u32x8) -> i64x8
     requires { Each1 (λ gain. gain < 2 ^ 30) gains }
-    ensures lanes { result ≡ map (scaled sample) gains }
+    ensures lanes { result ≡ map (scaled_sample sample) gains }
     ensures fits { Each1 (FitsSigned w32) result }
 {
     // Both come from signed lanes of 32 bits, so that the compiler multiplies 32 bits by 32.

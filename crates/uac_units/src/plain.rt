@@ -2,14 +2,14 @@
 
 ghost use Rattle.std.specs.Prelude.{◌≡◌, ◌↔◌, ◌+◌, ◌*◌, ◌^◌, ◌<◌, length, true};
 ghost use Rattle.uac_units.specs.declared.jobs.UnitKind.TheVariants.{Mixer, Selector, Feature, Effect};
-ghost use Rattle.uac_gain.specs.Gain.{scaled};
+ghost use Rattle.uac_gain.specs.Gain.{scaled_sample};
 ghost use Rattle.uac_units.specs.Rendering.{FitsKind, input, pins_sample, job_samples};
 ghost use Rattle.uac_units.specs.Unity.{HasUnity};
 
 use crate::channels::fit;
 use crate::jobs::{Job, Pins, UnitKind};
-use crate::rendering::Unit;
 use crate::steps::Steps;
+use crate::unit::Unit;
 use uac_gain::laws::{scaling_keeps_the_sign, unity_changes_nothing};
 use uac_gain::{saturate, scale};
 use uac_pcm::Frame;
@@ -252,7 +252,7 @@ fn input_of(inputs: &[i32], at: usize) -> i32
 /// An input, scaled by the gain of a node. Most nodes of a mixer are silent, whatever the input.
 fn mixed_input(inputs: &[i32], at: usize, gain: u32) -> i32
     requires { at < length inputs.now }
-    ensures { result ≡ scaled (input inputs.now at) gain }
+    ensures { result ≡ scaled_sample (input inputs.now at) gain }
 {
     if gain == 0 {
         scaling_keeps_the_sign();
@@ -265,14 +265,14 @@ fn mixed_input(inputs: &[i32], at: usize, gain: u32) -> i32
 /// An input, scaled by a gain.
 fn scaled_input(inputs: &[i32], at: usize, gain: u32) -> i32
     requires { at < length inputs.now }
-    ensures { result ≡ scaled (input inputs.now at) gain }
+    ensures { result ≡ scaled_sample (input inputs.now at) gain }
 {
     scaled_by(inputs[at], gain)
 }
 
 /// A sample, scaled by a gain. Most gains are 0 decibels, which changes none.
 fn scaled_by(sample: i32, gain: u32) -> i32
-    ensures { result ≡ scaled sample gain }
+    ensures { result ≡ scaled_sample sample gain }
 {
     if gain == UNITY {
         unity_changes_nothing();

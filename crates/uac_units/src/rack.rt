@@ -5,7 +5,7 @@ ghost use Rattle.uac_units.specs.declared.jobs.UnitKind.TheVariants.{Mixer, Sele
 ghost use Rattle.uac_units.specs.Fitting.{IsFitted, slot};
 
 use crate::jobs::UnitKind;
-use crate::rendering::Unit;
+use crate::unit::Unit;
 
 /// A box for each kind of unit.
 #[derive(Drop)]

@@ -2,5 +2,5 @@ pub mod CountLemmas
 pub mod WalkLemmas
 pub mod CyclesLemmas
 pub mod NotingLemmas
-pub mod SettleStep
-pub mod Settled
+pub mod ReleaseStep
+pub mod NodeReleasingLemmas

@@ -7,4 +7,4 @@ pub mod Cycles
 -- What the contracts below them cite: steps of the code, no part of what is promised.
 pub mod Count
 pub mod Noting
-pub mod NodeSettling
+pub mod NodeReleasing

@@ -6,7 +6,7 @@ ghost use Rattle.uac_walk.specs.Order.{IsClosed, IsOrder};
 ghost use Rattle.uac_walk.specs.Cycles.{ComesRound};
 ghost use Rattle.uac_walk.specs.Count.{times};
 ghost use Rattle.uac_walk.specs.Noting.{IsNoted, IsNamedBy};
-ghost use Rattle.uac_walk.specs.NodeSettling.{Settles};
+ghost use Rattle.uac_walk.specs.NodeReleasing.{Releases};
 
 use crate::links::Links;
 use std::alloc::{AllocError, Global};
@@ -25,7 +25,7 @@ pub fn sources_first(alloc: Global, graph: &[Links]) -> Result<Vec<usize>, Alloc
             return Ok(order);
         }
         let node = order[done];
-        settle(namers[node].as_slice(), &mut waiting, &mut order)?;
+        release(namers[node].as_slice(), &mut waiting, &mut order)?;
     }
     Ok(order)
 }
@@ -96,13 +96,13 @@ fn ready_of(alloc: Global, waiting: &[usize]) -> Result<Vec<usize>, AllocError>
 }
 
 // One node is done: each link that names it waits no more, and a node with none that wait is next.
-fn settle(
+fn release(
     namers: &[usize],
     waiting: &mut Vec<usize>,
     order: &mut Vec<usize>,
 ) -> Result<(), AllocError>
     requires { (v : ℕ) → times v namers.now ≤ slice_index waiting.old.items v }
-    ensures { OnOk result (Settles namers.now waiting.old.items order.old.items waiting.new.items order.new.items) }
+    ensures { OnOk result (Releases namers.now waiting.old.items order.old.items waiting.new.items order.new.items) }
 {
     for node in namers {
         let left = waiting[*node] - 1;

@@ -18,11 +18,11 @@ use Rattle.uac_words.specs.declared.commands.WordsFault.{WordsFault}
 use Rattle.uac_words.specs.declared.commands.WordsFault.TheVariants.{NoMemory, Usage}
 use Rattle.uac_words.specs.ByClap.{IsAnswer}
 use Rattle.uac_words.specs.Asked.{both, is_decimal, number_of}
-use Rattle.uac_words.specs.CommandLines.{AnswersLine, IsInRange, IsLine, rack_name, command_words}
-use Rattle.uac_words.specs.Plain.{PartedWords, Text, invocation_at, command_in, ends_options, has_value, is_dashed, is_option, parted_words_of, plainly, rack_in, with_bare, with_rack}
+use Rattle.uac_words.specs.CommandLines.{AnswersLine, IsCommandInRange, IsCommandLine, rack_name, command_words}
+use Rattle.uac_words.specs.Plain.{PartedWords, CommandWord, invocation_at, command_in, ends_options, has_value, is_dashed, is_option, parted_words_of, plainly, rack_in, with_bare, with_rack}
 use Rattle.uac_words.proofs.CommandLinesLemmas.{line_asks}
-use Rattle.uac_words.proofs.DigitWords.{digits_all}
-use Rattle.uac_words.proofs.PlainWords.{bytes_same}
+use Rattle.uac_words.proofs.AskedDigitLemmas.{digits_all}
+use Rattle.uac_words.proofs.PlainWordLemmas.{bytes_same}
 
 -- ---- options
 
@@ -41,7 +41,7 @@ mapped f (Some x) y e = (x, refl, inside (f x) y e)
 lead_one : (first len : ℕ) → (not (first == 48) || (len == 1)) ≡ true → first ≡ 48 → len ≡ 1
 lead_one first len h e = eqb-true len 1 (subst (λ x. (not (x == 48) || (len == 1)) ≡ true) e h)
 
-written : (text : Text) → is_decimal text ≡ true → digits_value 10 text ≤ 4294967295 → decimal (digits_value 10 text) ≡ text
+written : (text : CommandWord) → is_decimal text ≡ true → digits_value 10 text ≤ 4294967295 → decimal (digits_value 10 text) ≡ text
 unfolding is_decimal
 written text h small =
     let parts = and_parts _ _ h in
@@ -50,7 +50,7 @@ written text h small =
     decimal-digits_value (numerals_by_value _ tells_digits) text (digits_all text parts.1) (omega arith)
     (lead_one (slice_index text 0) (length text) more.1) (omega arith)
 
-number_written : (text : Text) (n : ℕ) → number_of text ≡ Some n → (text ≡ decimal n) × (n < 2 ^ 32)
+number_written : (text : CommandWord) (n : ℕ) → number_of text ≡ Some n → (text ≡ decimal n) × (n < 2 ^ 32)
 unfolding number_of
 number_written text n h = go (is_decimal text && nat_le (digits_value 10 text) 4294967295) refl h
   where
@@ -65,17 +65,17 @@ number_written text n h = go (is_decimal text && nat_le (digits_value 10 text) 4
 
 -- ---- a command and a rack
 
-abbrev IsSpelled : List Text → Command → Type 0
-IsSpelled bare command = (bare ≡ command_words command) × IsInRange command
+abbrev IsSpelled : List CommandWord → Command → Type 0
+IsSpelled bare command = (bare ≡ command_words command) × IsCommandInRange command
 
-named : (word name : Text) (this command : Command) (others : Option Command) → IsSpelled (name ∷ []) this → (t : Bool) → bytes_eq word name ≡ t
+named : (word name : CommandWord) (this command : Command) (others : Option Command) → IsSpelled (name ∷ []) this → (t : Bool) → bytes_eq word name ≡ t
     → (if t then Some this else others) ≡ Some command → (others ≡ Some command → IsSpelled (word ∷ []) command) → IsSpelled (word ∷ []) command
 named word name this command others is false e h next = next h
 named word name this command others is true e h next =
     let same = inside this command h in
     subst (λ (c : Command). IsSpelled (word ∷ []) c) same (ap (λ w. w ∷ []) (bytes_same word name e) ∙ is.0, is.1)
 
-command_written : (bare : List Text) (command : Command) → command_in bare ≡ Some command → IsSpelled bare command
+command_written : (bare : List CommandWord) (command : Command) → command_in bare ≡ Some command → IsSpelled bare command
 command_written [] command h = nothing command h
 command_written (word ∷ []) command h =
     named word (codes "check") Check command _ (refl, tt) _ refl h (λ h.
@@ -95,7 +95,7 @@ command_written (word ∷ number ∷ []) command h = go (bytes_eq word (codes "g
         (ap (λ w. w ∷ number ∷ []) (bytes_same word (codes "gen") e) ∙ ap (λ d. codes "gen" ∷ d ∷ []) is.0, is.1)
 command_written (word ∷ number ∷ third ∷ more) command h = nothing command h
 
-rack_written : (racks : List Text) (rack : RackChoice) → rack_in racks ≡ Some rack → (racks ≡ []) × (rack ≡ Plain) ⊎ (racks ≡ rack_name rack ∷ [])
+rack_written : (racks : List CommandWord) (rack : RackChoice) → rack_in racks ≡ Some rack → (racks ≡ []) × (rack ≡ Plain) ⊎ (racks ≡ rack_name rack ∷ [])
 rack_written [] rack h = inl (refl, sym (inside Plain rack h))
 rack_written (word ∷ []) rack h = first (bytes_eq word (codes "plain")) refl h
   where
@@ -119,14 +119,14 @@ both_there (Some c) (Some r) line h =
 
 -- ---- the words one after the other
 
-data First (word : Text) (rest : List Text) : Type 0 where
+data First (word : CommandWord) (rest : List CommandWord) : Type 0 where
   ends : word ≡ codes "--" → parted_words_of false (word ∷ rest) ≡ Some (record { bare = rest; racks = [] }) → First word rest
   apart : word ≡ codes "--rack" → parted_words_of false (word ∷ rest) ≡ parted_words_of true rest → First word rest
-  joined : (v : Text) → word ≡ codes "--rack=" ++ v → parted_words_of false (word ∷ rest) ≡ option_map (with_rack v) (parted_words_of false rest) → First word rest
+  joined : (v : CommandWord) → word ≡ codes "--rack=" ++ v → parted_words_of false (word ∷ rest) ≡ option_map (with_rack v) (parted_words_of false rest) → First word rest
   unknown : parted_words_of false (word ∷ rest) ≡ None → First word rest
   usual : parted_words_of false (word ∷ rest) ≡ option_map (with_bare word) (parted_words_of false rest) → First word rest
 
-first_of : (word : Text) (rest : List Text) → First word rest
+first_of : (word : CommandWord) (rest : List CommandWord) → First word rest
 first_of word rest = at (ends_options word) refl (is_option word) refl (has_value word) refl (is_dashed word) refl
   where
     at : (a : Bool) → ends_options word ≡ a → (b : Bool) → is_option word ≡ b → (v : Bool) → has_value word ≡ v → (d : Bool) → is_dashed word ≡ d
@@ -139,29 +139,29 @@ first_of word rest = at (ends_options word) refl (is_option word) refl (has_valu
     at false ea false eb false ev false ed = usual (rw (ea, eb, ev, ed) refl)
 
 -- the value after `--rack`
-valued : (words : List Text) (p : PartedWords) → parted_words_of true words ≡ Some p
-    → (value : Text) × (rest : List Text) × (q : PartedWords) × (words ≡ value ∷ rest) × (parted_words_of false rest ≡ Some q) × (with_rack value q ≡ p)
+valued : (words : List CommandWord) (p : PartedWords) → parted_words_of true words ≡ Some p
+    → (value : CommandWord) × (rest : List CommandWord) × (q : PartedWords) × (words ≡ value ∷ rest) × (parted_words_of false rest ≡ Some q) × (with_rack value q ≡ p)
 valued [] p h = nothing p h
 valued (word ∷ rest) p h = at (is_dashed word) refl h
   where
     at : (t : Bool) → is_dashed word ≡ t → (if t then None else option_map (with_rack word) (parted_words_of false rest)) ≡ Some p
-        → (value : Text) × (rest_ : List Text) × (q : PartedWords) × (word ∷ rest ≡ value ∷ rest_) × (parted_words_of false rest_ ≡ Some q) × (with_rack value q ≡ p)
+        → (value : CommandWord) × (rest_ : List CommandWord) × (q : PartedWords) × (word ∷ rest ≡ value ∷ rest_) × (parted_words_of false rest_ ≡ Some q) × (with_rack value q ≡ p)
     at true e h = nothing p h
     at false e h = let found = mapped (with_rack word) (parted_words_of false rest) p h in (word, rest, found.0, refl, found.1, found.2)
 
 -- words that choose no rack
-record IsRest (words bare : List Text) : Type 0 where
-  between : List Text
-  dashes : List Text
-  following : List Text
+record IsRest (words bare : List CommandWord) : Type 0 where
+  between : List CommandWord
+  dashes : List CommandWord
+  following : List CommandWord
   whole : words ≡ between ++ (dashes ++ following)
   parts : between ++ following ≡ bare
   end : (dashes ≡ []) ⊎ (dashes ≡ codes "--" ∷ [])
 
-one_more : (value : Text) (more : List Text) → value ∷ more ≡ [] → ⊥
+one_more : (value : CommandWord) (more : List CommandWord) → value ∷ more ≡ [] → ⊥
 one_more value more e = let lengths = ap length e in omega arith
 
-no_choice : (words : List Text) (p : PartedWords) → parted_words_of false words ≡ Some p → p.racks ≡ [] → IsRest words p.bare
+no_choice : (words : List CommandWord) (p : PartedWords) → parted_words_of false words ≡ Some p → p.racks ≡ [] → IsRest words p.bare
 no_choice [] p h none = record { between = []; dashes = []; following = []; whole = refl; parts = ap (λ q. q.bare) (inside _ p h); end = inl refl }
 no_choice (word ∷ rest) p h none = elim (first_of word rest) [
   | ends is e ↦ record {
@@ -189,26 +189,26 @@ no_choice (word ∷ rest) p h none = elim (first_of word rest) [
 ]
 
 -- words that choose this rack
-record IsChoice (words bare : List Text) (value : Text) : Type 0 where
-  before : List Text
-  option : List Text
-  between : List Text
-  dashes : List Text
-  following : List Text
+record IsChoice (words bare : List CommandWord) (value : CommandWord) : Type 0 where
+  before : List CommandWord
+  option : List CommandWord
+  between : List CommandWord
+  dashes : List CommandWord
+  following : List CommandWord
   whole : words ≡ before ++ (option ++ (between ++ (dashes ++ following)))
   parts : before ++ (between ++ following) ≡ bare
   chosen : (option ≡ codes "--rack" ∷ value ∷ []) ⊎ (option ≡ (codes "--rack=" ++ value) ∷ [])
   end : (dashes ≡ []) ⊎ (dashes ≡ codes "--" ∷ [])
 
-head_of : List Text → Text
+head_of : List CommandWord → CommandWord
 head_of [] = []
 head_of (word ∷ more) = word
 
-tail_of : List Text → List Text
+tail_of : List CommandWord → List CommandWord
 tail_of [] = []
 tail_of (word ∷ more) = more
 
-one_choice : (words : List Text) (p : PartedWords) (value : Text) → parted_words_of false words ≡ Some p → p.racks ≡ value ∷ [] → IsChoice words p.bare value
+one_choice : (words : List CommandWord) (p : PartedWords) (value : CommandWord) → parted_words_of false words ≡ Some p → p.racks ≡ value ∷ [] → IsChoice words p.bare value
 unfolding head_of tail_of
 one_choice [] p value h one = absurd (one_more value [] (sym (ap (λ q. q.racks) (inside _ p h) ∙ one)))
 one_choice (word ∷ rest) p value h one = elim (first_of word rest) [
@@ -261,11 +261,11 @@ one_choice (word ∷ rest) p value h one = elim (first_of word rest) [
 ]
 
 -- what asks for something is a command line
-pub nothing_else_asks : (words : List Text) (line : Invocation) → plainly words ≡ Some line → IsLine words line
+pub nothing_else_asks : (words : List CommandWord) (line : Invocation) → plainly words ≡ Some line → IsCommandLine words line
 unfolding plainly
 nothing_else_asks words line h = go (parted_words_of false words) refl h
   where
-    go : (o : Option PartedWords) → parted_words_of false words ≡ o → invocation_at o ≡ Some line → IsLine words line
+    go : (o : Option PartedWords) → parted_words_of false words ≡ o → invocation_at o ≡ Some line → IsCommandLine words line
     go None e h = nothing line h
     go (Some p) e h =
         let there = both_there (command_in p.bare) (rack_in p.racks) line h in
@@ -302,7 +302,7 @@ nothing_else_asks words line h = go (parted_words_of false words) refl h
         ]
 
 -- the answer to what is said of the words is right for command lines
-pub answers_line : (words : List Text) (r : Result Invocation WordsFault) → IsAnswer (plainly words) r → AnswersLine words r
+pub answers_line : (words : List CommandWord) (r : Result Invocation WordsFault) → IsAnswer (plainly words) r → AnswersLine words r
 answers_line words (Ok line) h = nothing_else_asks words line h
 answers_line words (Err Usage) h = λ line is. nothing line (sym h ∙ line_asks words line is)
 answers_line words (Err NoMemory) h = tt

@@ -10,7 +10,7 @@ use Rattle.clap.proofs.OnLiterals.{clap_on_literals}
 use Rattle.uac_words.specs.declared.commands.Invocation.{Invocation}
 use Rattle.uac_words.specs.declared.commands.WordsFault.{WordsFault}
 use Rattle.uac_words.specs.declared.commands.WordsFault.TheVariants.{NoMemory, Usage}
-use Rattle.uac_words.specs.ByClap.{HasMatched, IsAnswer, IsRefused, answer, invocation_of, invocation_by, invocation_by_rows, simple_command}
+use Rattle.uac_words.specs.ByClap.{HasMatched, IsAnswer, IsRefused, answer_to_words, invocation_of, invocation_by, invocation_by_rows, simple_command}
 
 pub is_free : is_simple_and_free simple_command ≡ true
 unfolding clap_on_literals
@@ -62,11 +62,11 @@ refused_as_asked words e r h is = subst (IsAnswer (invocation_of words)) (sym is
   | inr refused ↦ subst (λ (f : WordsFault). IsAnswer (invocation_of words) (Err f)) (sym refused.0) (not_asked words _ refl refused.1)
 ])
 
-is_answer : (o : Option Invocation) → IsAnswer o (answer o)
+is_answer : (o : Option Invocation) → IsAnswer o (answer_to_words o)
 is_answer None = refl
 is_answer (Some words) = refl
 
 pub answered_as_asked : (words : List Text) (m : ArgMatches) (r : Result Invocation WordsFault) → HasMatched words m
-    → r ≡ answer (invocation_by_rows (rows_of (found_of m))) → IsAnswer (invocation_of words) r
+    → r ≡ answer_to_words (invocation_by_rows (rows_of (found_of m))) → IsAnswer (invocation_of words) r
 answered_as_asked words m r h is =
-    subst (IsAnswer (invocation_of words)) (sym (is ∙ ap answer (sym (asked_as_matched words m h)))) (is_answer (invocation_of words))
+    subst (IsAnswer (invocation_of words)) (sym (is ∙ ap answer_to_words (sym (asked_as_matched words m h)))) (is_answer (invocation_of words))

@@ -13,11 +13,11 @@ use Rattle.uac_words.specs.declared.commands.RackChoice.{RackChoice}
 use Rattle.uac_words.specs.declared.commands.RackChoice.TheVariants.{Plain, Lanes}
 use Rattle.uac_words.specs.declared.commands.Invocation.{Invocation}
 use Rattle.uac_words.specs.Asked.{both, is_decimal, number_of}
-use Rattle.uac_words.specs.CommandLines.{Chooses, IsInRange, IsLine, rack_name, command_words}
-use Rattle.uac_words.specs.Plain.{Text, invocation_at, command_in, parted_words_of, plainly, rack_in, with_bare, with_rack}
-use Rattle.uac_words.proofs.DigitWords.{both_true}
+use Rattle.uac_words.specs.CommandLines.{Chooses, IsCommandInRange, IsCommandLine, rack_name, command_words}
+use Rattle.uac_words.specs.Plain.{CommandWord, invocation_at, command_in, parted_words_of, plainly, rack_in, with_bare, with_rack}
+use Rattle.uac_words.proofs.AskedDigitLemmas.{both_true}
 use Rattle.uac_words.proofs.PlainLemmas.{placed_usual}
-use Rattle.uac_words.proofs.PlainWords.{IsBare, alone, undashed}
+use Rattle.uac_words.proofs.PlainWordLemmas.{IsBare, alone, undashed}
 
 -- ---- numbers
 
@@ -48,12 +48,12 @@ number_spelled n small =
 
 -- ---- the words of a command
 
-bare_digits : (ds : Text) → 0 < length ds → AllDigits 10 ds → IsBare ds
+bare_digits : (ds : CommandWord) → 0 < length ds → AllDigits 10 ds → IsBare ds
 bare_digits [] some digits = absurd (omega arith)
 bare_digits (c ∷ []) some digits = let d = digit_from_value c digits.0 in alone c false (ne_eqb c 45 (λ e. omega arith))
 bare_digits (c ∷ y ∷ ys) some digits = let d = digit_from_value c digits.0 in undashed c y ys (ne_eqb c 45 (λ e. omega arith))
 
-bare_spelled : (command : Command) → IsInRange command → AllByRecursion IsBare (command_words command)
+bare_spelled : (command : Command) → IsCommandInRange command → AllByRecursion IsBare (command_words command)
 bare_spelled Check range = (record { dashed = refl; ends = refl; option = refl; valued = refl; long = refl; short = refl }, tt)
 bare_spelled Show range = (record { dashed = refl; ends = refl; option = refl; valued = refl; long = refl; short = refl }, tt)
 bare_spelled Elements range = (record { dashed = refl; ends = refl; option = refl; valued = refl; long = refl; short = refl }, tt)
@@ -63,7 +63,7 @@ bare_spelled (Gen number) range =
     let numeral = (decimal_is_IsNumeral number (omega arith)).0 in
     (record { dashed = refl; ends = refl; option = refl; valued = refl; long = refl; short = refl }, (bare_digits (decimal number) numeral.0 numeral.1, tt))
 
-command_spelled : (command : Command) → IsInRange command → command_in (command_words command) ≡ Some command
+command_spelled : (command : Command) → IsCommandInRange command → command_in (command_words command) ≡ Some command
 command_spelled Check range = refl
 command_spelled Show range = refl
 command_spelled Elements range = refl
@@ -81,12 +81,12 @@ all_back P (x ∷ xs) ys h = all_back P xs ys h.1
 
 -- ---- the pieces of a line
 
-placed_front : (xs rest bare racks : List Text) → AllByRecursion IsBare xs → parted_words_of false rest ≡ Some (record { bare = bare; racks = racks })
+placed_front : (xs rest bare racks : List CommandWord) → AllByRecursion IsBare xs → parted_words_of false rest ≡ Some (record { bare = bare; racks = racks })
     → parted_words_of false (xs ++ rest) ≡ Some (record { bare = xs ++ bare; racks = racks })
 placed_front [] rest bare racks all e = e
 placed_front (x ∷ xs) rest bare racks all e = placed_usual x (xs ++ rest) all.0 ∙ ap (option_map (with_bare x)) (placed_front xs rest bare racks all.1 e)
 
-placed_end : (dashes following : List Text) → AllByRecursion IsBare following → (dashes ≡ []) ⊎ (dashes ≡ codes "--" ∷ [])
+placed_end : (dashes following : List CommandWord) → AllByRecursion IsBare following → (dashes ≡ []) ⊎ (dashes ≡ codes "--" ∷ [])
     → parted_words_of false (dashes ++ following) ≡ Some (record { bare = following; racks = [] })
 placed_end dashes following all end = elim end [
   | inl none ↦ subst (λ ds. parted_words_of false (ds ++ following) ≡ Some (record { bare = following; racks = [] })) (sym none)
@@ -95,9 +95,9 @@ placed_end dashes following all end = elim end [
   | inr some ↦ subst (λ ds. parted_words_of false (ds ++ following) ≡ Some (record { bare = following; racks = [] })) (sym some) refl
 ]
 
-placed_chosen : (option : List Text) (rack : RackChoice) (rest bare : List Text) → Chooses option rack
+placed_chosen : (option : List CommandWord) (rack : RackChoice) (rest bare : List CommandWord) → Chooses option rack
     → parted_words_of false rest ≡ Some (record { bare = bare; racks = [] })
-    → (racks : List Text) × (parted_words_of false (option ++ rest) ≡ Some (record { bare = bare; racks = racks })) × (rack_in racks ≡ Some rack)
+    → (racks : List CommandWord) × (parted_words_of false (option ++ rest) ≡ Some (record { bare = bare; racks = racks })) × (rack_in racks ≡ Some rack)
 placed_chosen option rack rest bare chooses e = elim chooses [
   | inl none ↦ ([], subst (λ xs. parted_words_of false (xs ++ rest) ≡ Some (record { bare = bare; racks = [] })) (sym none.0) e, ap Some (sym none.1))
   | inr some ↦ elim some [
@@ -125,7 +125,7 @@ placed_chosen option rack rest bare chooses e = elim chooses [
     rack_is Lanes = refl
 
 -- each command line asks for its command over its rack
-pub line_asks : (words : List Text) (line : Invocation) → IsLine words line → plainly words ≡ Some line
+pub line_asks : (words : List CommandWord) (line : Invocation) → IsCommandLine words line → plainly words ≡ Some line
 unfolding plainly
 line_asks words line h =
     let all = bare_spelled line.command h.range in

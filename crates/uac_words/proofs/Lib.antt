@@ -1,8 +1,8 @@
 pub mod AskedLemmas
 pub mod ByClapLemmas
 pub mod CommandLinesLemmas
-pub mod DigitWords
+pub mod AskedDigitLemmas
 pub mod PlainLemmas
 pub mod PlainRows
-pub mod PlainRuns
-pub mod PlainWords
+pub mod ByClapRunLemmas
+pub mod PlainWordLemmas

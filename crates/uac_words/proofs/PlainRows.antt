@@ -14,7 +14,7 @@ use Rattle.uac_words.specs.declared.commands.Invocation.{Invocation}
 use Rattle.uac_words.specs.Asked.{both}
 use Rattle.uac_words.specs.ByClap.{invocation_by, invocation_by_rows, none_refused}
 use Rattle.uac_words.specs.Plain.{command_in, rack_in}
-use Rattle.uac_words.proofs.PlainRuns.{args, command_arg, full, number_arg, rack_arg, top}
+use Rattle.uac_words.proofs.ByClapRunLemmas.{args, command_arg, full, number_arg, rack_arg, top}
 
 abbrev pub row : Text → Text → Row
 row id value = record { id = id; values = value ∷ []; count = None; source = Some CommandLine; reading = reading_by rack_arg }

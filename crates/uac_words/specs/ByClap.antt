@@ -52,9 +52,9 @@ unfoldable pub invocation_of : List Text → Option Invocation
 invocation_of words = if none_refused (fault_of simple_command words) then invocation_by_rows (matches_of simple_command words) else None
 
 -- the answer to them, where there is memory
-abbrev pub answer : Option Invocation → Result Invocation WordsFault
-answer (Some words) = Ok words
-answer None = Err Usage
+abbrev pub answer_to_words : Option Invocation → Result Invocation WordsFault
+answer_to_words (Some words) = Ok words
+answer_to_words None = Err Usage
 
 -- the answer is right where words ask for this, or for nothing. Want of memory may come with any words
 abbrev pub IsAnswer : Option Invocation → Result Invocation WordsFault → Type 0

@@ -10,10 +10,10 @@ use Rattle.uac_words.specs.declared.commands.Invocation.{Invocation}
 use Rattle.uac_words.specs.declared.commands.WordsFault.{WordsFault}
 use Rattle.uac_words.specs.declared.commands.WordsFault.TheVariants.{NoMemory, Usage}
 use Rattle.uac_words.specs.ByClap.{invocation_of}
-use Rattle.uac_words.specs.Plain.{Text, plainly}
+use Rattle.uac_words.specs.Plain.{CommandWord, plainly}
 
 -- a command, as it is written: NUMBER is in decimal without leading zeros
-abbrev pub command_words : Command → List Text
+abbrev pub command_words : Command → List CommandWord
 command_words Check = codes "check" ∷ []
 command_words Show = codes "show" ∷ []
 command_words Elements = codes "elements" ∷ []
@@ -22,52 +22,52 @@ command_words (Gen number) = codes "gen" ∷ decimal number ∷ []
 command_words Settle = codes "settle" ∷ []
 
 -- a NUMBER has 32 bits
-abbrev pub IsInRange : Command → Type 0
-IsInRange (Gen number) = number < 2 ^ 32
-IsInRange Check = ⊤
-IsInRange Show = ⊤
-IsInRange Elements = ⊤
-IsInRange Run = ⊤
-IsInRange Settle = ⊤
+abbrev pub IsCommandInRange : Command → Type 0
+IsCommandInRange (Gen number) = number < 2 ^ 32
+IsCommandInRange Check = ⊤
+IsCommandInRange Show = ⊤
+IsCommandInRange Elements = ⊤
+IsCommandInRange Run = ⊤
+IsCommandInRange Settle = ⊤
 
-abbrev pub rack_name : RackChoice → Text
+abbrev pub rack_name : RackChoice → CommandWord
 rack_name Plain = codes "plain"
 rack_name Lanes = codes "lanes"
 
 -- the words that choose a rack: `--rack` and its name as two words, or as one with `=` between; none at all choose the plain one
-abbrev pub Chooses : List Text → RackChoice → Type 0
+abbrev pub Chooses : List CommandWord → RackChoice → Type 0
 Chooses option rack =
     (option ≡ []) × (rack ≡ Plain) ⊎ ((option ≡ codes "--rack" ∷ rack_name rack ∷ []) ⊎ (option ≡ (codes "--rack=" ++ rack_name rack) ∷ []))
 
 -- the words are the command's own, in their order, with those that choose the rack anywhere among them, and perhaps a word `--` anywhere
 -- after those
-pub record IsLine (words : List Text) (line : Invocation) : Type 0 where
-  pub before : List Text
-  pub option : List Text
-  pub between : List Text
-  pub dashes : List Text
-  pub following : List Text
+pub record IsCommandLine (words : List CommandWord) (line : Invocation) : Type 0 where
+  pub before : List CommandWord
+  pub option : List CommandWord
+  pub between : List CommandWord
+  pub dashes : List CommandWord
+  pub following : List CommandWord
   pub whole : words ≡ before ++ (option ++ (between ++ (dashes ++ following)))
   pub command : before ++ (between ++ following) ≡ command_words line.command
-  pub range : IsInRange line.command
+  pub range : IsCommandInRange line.command
   pub rack : Chooses option line.rack
   pub end : (dashes ≡ []) ⊎ (dashes ≡ codes "--" ∷ [])
 
 -- each command line asks for its command over its rack
 abbrev pub LinesAsk : Type 0
-LinesAsk = (words : List Text) (line : Invocation) → IsLine words line → plainly words ≡ Some line
+LinesAsk = (words : List CommandWord) (line : Invocation) → IsCommandLine words line → plainly words ≡ Some line
 
 -- and no other words ask for anything
 abbrev pub NothingElseAsks : Type 0
-NothingElseAsks = (words : List Text) (line : Invocation) → plainly words ≡ Some line → IsLine words line
+NothingElseAsks = (words : List CommandWord) (line : Invocation) → plainly words ≡ Some line → IsCommandLine words line
 
 -- the answer to these words is right: a command line is answered by what it is, and what is no command line is refused. Want of
 -- memory may come with any words
-abbrev pub AnswersLine : List Text → Result Invocation WordsFault → Type 0
-AnswersLine words (Ok line) = IsLine words line
-AnswersLine words (Err Usage) = (line : Invocation) → ¬ (IsLine words line)
+abbrev pub AnswersLine : List CommandWord → Result Invocation WordsFault → Type 0
+AnswersLine words (Ok line) = IsCommandLine words line
+AnswersLine words (Err Usage) = (line : Invocation) → ¬ (IsCommandLine words line)
 AnswersLine words (Err NoMemory) = ⊤
 
 -- by the simple command's own rules texts ask for the same
 abbrev pub RulesAskTheSame : Type 0
-RulesAskTheSame = (words : List Text) → AllByRecursion IsUtf8 words → invocation_of words ≡ plainly words
+RulesAskTheSame = (words : List CommandWord) → AllByRecursion IsUtf8 words → invocation_of words ≡ plainly words

@@ -3,7 +3,8 @@ ghost use Rattle.std.specs.Prelude.{◌≡◌, ◌≢◌, ◌⊎◌, IfOk, Match
 ghost use Rattle.std.specs.List.{list_all};
 ghost use Rattle.std.specs.Char.{is_ascii_digit};
 ghost use Rattle.uac_words.specs.Asked.{both, command_named, command_of, command_with, is_decimal, number_of, rack_named};
-ghost use Rattle.uac_words.specs.ByClap.{HasMatched, IsAnswer, IsRefused, answer, invocation_of, invocation_by, invocation_by_rows, now_in};
+ghost use Rattle.uac_words.specs.ByClap.{HasMatched, IsAnswer, IsRefused, answer_to_words, invocation_of, invocation_by};
+ghost use Rattle.uac_words.specs.ByClap.{invocation_by_rows, now_in};
 ghost use Rattle.uac_words.specs.ByClap.{simple_command};
 ghost use Rattle.uac_words.specs.CommandLines.{AnswersLine};
 ghost use Rattle.uac_words.specs.Plain.{plainly};
@@ -33,7 +34,7 @@ fn is_decimal(word: &[u8]) -> bool
 }
 
 /// The NUMBER that a word spells.
-#[tactic(auto, unfolding(crate::specs::Asked::number_of), using(crate::proofs::DigitWords::number_read))]
+#[tactic(auto, unfolding(crate::specs::Asked::number_of), using(crate::proofs::AskedDigitLemmas::number_read))]
 fn number(word: &str) -> Option<u32>
     ensures { result ≡ number_of word.now }
 {
@@ -176,8 +177,8 @@ fn asked_by_matches(matches: &ArgMatches) -> Option<Invocation>
 }
 
 /// The answer to words that ask for this, or for nothing.
-fn answer(invocation: Option<Invocation>) -> Result<Invocation, WordsFault>
-    ensures { result ≡ answer invocation }
+fn answer_to_words(invocation: Option<Invocation>) -> Result<Invocation, WordsFault>
+    ensures { result ≡ answer_to_words invocation }
 {
     match invocation {
         Some(words) => Ok(words),
@@ -193,5 +194,5 @@ pub fn read(alloc: Global, words: &[String]) -> Result<Invocation, WordsFault>
     ensures line { AnswersLine (map (λ w. string_bytes w) words.now) result }
 {
     let matches = matches_in(alloc, words)?;
-    answer(asked_by_matches(&matches))
+    answer_to_words(asked_by_matches(&matches))
 }

@@ -4,7 +4,7 @@ use std::alloc::Global;
 use std::test::Fail;
 
 /// What the words of a line, parted by one space each, ask for.
-fn asked(alloc: Global, line: &str) -> Result<Result<Invocation, WordsFault>, Fail> {
+fn ask(alloc: Global, line: &str) -> Result<Result<Invocation, WordsFault>, Fail> {
     let mut words = Vec::new(alloc);
     for word in line.split(' ') {
         words.push(String::from_str(alloc, word)?)?;
@@ -35,7 +35,7 @@ fn takes_a_command_over_a_rack(rt: HostRuntime) -> Result<(), Fail> {
     ];
     for (line, command, rack) in table {
         assert_eq!(rt;
-            asked(rt.alloc(), line)?,
+            ask(rt.alloc(), line)?,
             Ok(Invocation { command, rack }),
             "{line}"
         );
@@ -71,7 +71,7 @@ fn refuses_all_other_words(rt: HostRuntime) -> Result<(), Fail> {
         "gen 1 2",
     ];
     for line in table {
-        assert_eq!(rt; asked(rt.alloc(), line)?, Err(WordsFault::Usage), "{line}");
+        assert_eq!(rt; ask(rt.alloc(), line)?, Err(WordsFault::Usage), "{line}");
     }
     Ok(())
 }

@@ -1,5 +1,5 @@
 use Rattle.std.proofs.Common.{arith, ◌/◌}
-use Rattle.uac_gain.proofs.Rising.{half_above-fits}
+use Rattle.uac_gain.proofs.GainRiseLemmas.{half_above-fits}
 use Rattle.uac_gain.proofs.above.Goals as goal
 
 pub overflow_cast-result-then-parts-le-HIGHEST_HALF : goal.overflow_cast-result-then-parts-le-HIGHEST_HALF

@@ -31,7 +31,7 @@ const HEADSET: [u8; 293] = [
 ];
 
 /// The bytes of the blocks that are read from these in pieces of this size, or where they stop.
-fn written_back(alloc: Global, bytes: &[u8], cut: usize) -> Result<ByteList, ReadStop>
+fn write_back(alloc: Global, bytes: &[u8], cut: usize) -> Result<ByteList, ReadStop>
     requires { 0 < cut }
 {
     let mut reader = Reader::new(alloc);
@@ -61,7 +61,7 @@ fn stop_of(alloc: Global, bytes: &[u8]) -> Option<ReadStop> {
 }
 
 /// The headset with one byte changed.
-fn changed(at: usize, value: u8) -> [u8; 293]
+fn with_byte(at: usize, value: u8) -> [u8; 293]
     requires { at < 293 }
 {
     let mut bytes = HEADSET;
@@ -76,7 +76,7 @@ fn fault(rule: u8, at: u32) -> ReadStop {
 #[test]
 fn the_headset_is_written_back(rt: HostRuntime) {
     for cut in [1, 5, 293] {
-        match written_back(rt.alloc(), &HEADSET, cut) {
+        match write_back(rt.alloc(), &HEADSET, cut) {
             Ok(out) => assert_eq!(rt; out.as_slice(), HEADSET.as_slice(), "in pieces of {cut}"),
             Err(stop) => assert_eq!(rt; Some(stop), None, "in pieces of {cut}"),
         }
@@ -93,7 +93,7 @@ fn faults_have_their_places(rt: HostRuntime) {
     ];
     for (at, value, stop) in rows {
         assert_eq!(rt;
-            stop_of(rt.alloc(), &changed(at, value)),
+            stop_of(rt.alloc(), &with_byte(at, value)),
             Some(stop),
             "byte {at}"
         );
@@ -104,7 +104,7 @@ fn faults_have_their_places(rt: HostRuntime) {
 #[test]
 fn a_fault_is_answered_again(rt: HostRuntime) {
     let mut reader = Reader::new(rt.alloc());
-    assert_eq!(rt; reader.feed(&changed(83, 2)), Err(fault(4, 78)));
+    assert_eq!(rt; reader.feed(&with_byte(83, 2)), Err(fault(4, 78)));
     assert_eq!(rt; reader.feed(&[]), Err(fault(4, 78)));
     assert!(rt; reader.finish().is_err());
 }

@@ -1,6 +1,6 @@
 // What stands first in the unread bytes.
 ghost use Rattle.std.specs.Prelude.{◌≡◌, ◌≤◌, ◌==◌, length, position};
-ghost use Rattle.uac_script.specs.Looking.{Shows, line_end};
+ghost use Rattle.uac_script.specs.Looking.{ShowsFront, line_end};
 
 /// The most bytes of a line, without its newline.
 const MOST: usize = 4096;
@@ -41,7 +41,7 @@ fn find_end(bytes: &[u8], searched: usize) -> usize
 pub fn look(bytes: &[u8], searched: usize, spare: usize) -> Front
     requires known { searched ≤ line_end bytes.now }
     requires counted { searched ≤ spare }
-    ensures { Shows spare bytes.now result }
+    ensures { ShowsFront spare bytes.now result }
 {
     let counted = &bytes[..bytes.len().min(spare)];
     let size = find_end(counted, searched);

@@ -2,7 +2,7 @@
 ghost use Rattle.std.specs.Prelude.{◌≡◌, ℕ, ◌+◌, ◌-◌, ◌<◌, ◌≤◌, [], length, take, drop, IfOk, OnErr};
 ghost use Rattle.std.specs.Io.KnownBytes.{Keeps};
 ghost use Rattle.uac_edges.specs.Faults.{HasCause};
-ghost use Rattle.uac_script.specs.ScriptLines.{piece_size};
+ghost use Rattle.uac_script.specs.ScriptLines.{script_piece};
 ghost use Rattle.uac_script.specs.Taking.{Grows};
 
 use std::marker::Model;
@@ -75,7 +75,7 @@ impl Unread {
         requires room { length self.old < SIZE }
         ensures ok { IfOk result (λ n. Grows self.old self.new (S.left source.old) (S.left source.new) most n) }
         ensures err { OnErr result (self.new ≡ self.old) }
-        ensures piece { IfOk result (λ n. n ≤ piece_size) }
+        ensures piece { IfOk result (λ n. n ≤ script_piece) }
         ensures kept { OnErr result (Keeps (S.left source.old) (S.left source.new)) }
         ensures cause { HasCause (S.faults source.old) (S.faults source.new) result }
     {

@@ -1,4 +1,4 @@
-use Rattle.uac_bands.proofs.Ordered.{deviations_keep_order, requests_keep_order, starts_are_ordered, transfers_keep_order}
+use Rattle.uac_bands.proofs.ProjectionLemmas.{deviations_keep_order, requests_keep_order, starts_are_ordered, transfers_keep_order}
 use Rattle.uac_bands.proofs.laws.devices_are_ordered.Goals as goal
 
 pub returns-clause-start : goal.returns-clause-start

@@ -1,6 +1,6 @@
-use Rattle.uac_bands.proofs.SoundRuns.{calls_keep_sound, microframes_keep_sound}
-use Rattle.uac_bands.proofs.SoundStart.{runs_start_sound}
-use Rattle.uac_bands.proofs.SoundTransfers.{transfers_keep_sound}
+use Rattle.uac_bands.proofs.BandTransfersRunLemmas.{calls_keep_sound, microframes_keep_sound}
+use Rattle.uac_bands.proofs.BandTransfersStartLemmas.{runs_start_sound}
+use Rattle.uac_bands.proofs.BandTransfersLemmas.{transfers_keep_sound}
 use Rattle.uac_bands.proofs.laws.runs_stay_sound.Goals as goal
 
 pub returns-clause-microframes : goal.returns-clause-microframes

@@ -2,7 +2,7 @@ use Rattle.std.proofs.Common.{sym, subst, ◌∙◌}
 use Rattle.std.proofs.KnownBytes.{Appends-nil}
 use Rattle.uac_topology.specs.Function.{FunctionFields}
 use Rattle.uac_topology.specs.FunctionKept.{AreNumbered}
-use Rattle.uac_host.specs.Calls.{AreWhole}
+use Rattle.uac_host.specs.HostCalls.{AreWhole}
 use Rattle.uac_bus.proofs.Rowing.{append_broken, unless_reached, streams_in, has_out_in, are_frames_in}
 use Rattle.uac_bus.proofs.Framing.{are_whole}
 use Rattle.uac_bus.proofs.rows.append.Goals as goal

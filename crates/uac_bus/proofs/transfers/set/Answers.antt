@@ -7,7 +7,7 @@ use Rattle.uac_running.specs.RunningKept.{RunningTellsBetween}
 use Rattle.uac_running.specs.RunningTransfers.{set_element}
 use Rattle.uac_bus.specs.declared.bus.BusStage.TheVariants as stages
 use Rattle.uac_bus.specs.BusWorld.{Step, breaks_rule}
-use Rattle.uac_bus.specs.BusKept.{IsCut, Reaches, StageStands}
+use Rattle.uac_bus.specs.BusKept.{IsWriteCut, Reaches, BusStageStands}
 use Rattle.uac_bus.proofs.Stepping.{unless_fails, unless_holds}
 use Rattle.uac_bus.proofs.TransferRows.{on_named}
 use Rattle.uac_bus.proofs.transfers.set.Goals as goal
@@ -22,7 +22,7 @@ returns-then-not-fits-clause-does g c = λ shown r s.
 pub returns-in-Ok-clause-does : goal.returns-in-Ok-clause-does
 returns-in-Ok-clause-does g c = λ shown r s.
     let exact : to_z w32 (of_z w32 c.args.value) ≡ c.args.value = to_z-of_z w32 c.args.value c.ranges.value in
-    let reaches = λ (t : Step). Reaches t (StageStands (stages.Running c.set_element.new.self) shown) (g.K.Sink.written c.args.sink.now) (g.K.Sink.written c.set_element.new.sink) in
+    let reaches = λ (t : Step). Reaches t (BusStageStands (stages.Running c.set_element.new.self) shown) (g.K.Sink.written c.args.sink.now) (g.K.Sink.written c.set_element.new.sink) in
     on_named reaches r c.args.name.now c.args.running.now.view.elements c.in-Some.at _
     (ap (λ (v : ViewWorld). v.elements) s.now.view) c.in-Some.ensures.there (c.in-Some.ensures.named shown r s)
     (λ x own there.
@@ -34,7 +34,7 @@ returns-in-Ok-clause-does g c = λ shown r s.
 pub returns-in-Err-clause-does : goal.returns-in-Err-clause-does
 returns-in-Err-clause-does g c = λ shown r s.
     let exact : to_z w32 (of_z w32 c.args.value) ≡ c.args.value = to_z-of_z w32 c.args.value c.ranges.value in
-    let cut = λ (t : Step). IsCut t (g.K.Sink.written c.args.sink.now) (g.K.Sink.written c.set_element.new.sink) in
+    let cut = λ (t : Step). IsWriteCut t (g.K.Sink.written c.args.sink.now) (g.K.Sink.written c.set_element.new.sink) in
     on_named cut r c.args.name.now c.args.running.now.view.elements c.in-Some.at _
     (ap (λ (v : ViewWorld). v.elements) s.now.view) c.in-Some.ensures.there (c.in-Some.ensures.named shown r s)
     (λ x own there.

@@ -3,20 +3,20 @@ use Rattle.uac_mixer.specs.ViewWorld.{ViewWorld}
 use Rattle.uac_running.specs.RunningTransfers.{show_element}
 use Rattle.uac_bus.specs.declared.bus.BusStage.TheVariants as stages
 use Rattle.uac_bus.specs.BusWorld.{Step}
-use Rattle.uac_bus.specs.BusKept.{IsCut, Reaches, StageStands}
+use Rattle.uac_bus.specs.BusKept.{IsWriteCut, Reaches, BusStageStands}
 use Rattle.uac_bus.proofs.TransferRows.{on_named}
 use Rattle.uac_bus.proofs.transfers.show.Goals as goal
 
 pub returns-in-Ok-clause-does : goal.returns-in-Ok-clause-does
 unfolding show_element
 returns-in-Ok-clause-does g c = λ shown r s.
-    on_named (λ (t : Step). Reaches t (StageStands (stages.Running c.args.running.now) shown) (g.K.Sink.written c.args.sink.now) (g.K.Sink.written c.show_element.new.sink))
+    on_named (λ (t : Step). Reaches t (BusStageStands (stages.Running c.args.running.now) shown) (g.K.Sink.written c.args.sink.now) (g.K.Sink.written c.show_element.new.sink))
     r c.args.name.now c.args.running.now.view.elements c.in-Some.at _ (ap (λ (v : ViewWorld). v.elements) s.now.view) c.in-Some.ensures.there
     (c.in-Some.ensures.named shown r s) (λ x own there. (s, c.in-Ok.ensures.printed x own))
 
 pub returns-in-Err-clause-does : goal.returns-in-Err-clause-does
 unfolding show_element
 returns-in-Err-clause-does g c = λ shown r s.
-    on_named (λ (t : Step). IsCut t (g.K.Sink.written c.args.sink.now) (g.K.Sink.written c.show_element.new.sink))
+    on_named (λ (t : Step). IsWriteCut t (g.K.Sink.written c.args.sink.now) (g.K.Sink.written c.show_element.new.sink))
     r c.args.name.now c.args.running.now.view.elements c.in-Some.at _ (ap (λ (v : ViewWorld). v.elements) s.now.view) c.in-Some.ensures.there
     (c.in-Some.ensures.named shown r s) (λ x own there. c.in-Err.ensures.printed x own)

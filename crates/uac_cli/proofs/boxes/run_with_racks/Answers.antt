@@ -1,12 +1,12 @@
 use denote.Param.Object.{read_made}
 use Rattle.std.proofs.Common.{◌≡◌, ℕ, refl, ap, subst, ◌∙◌, map, List, [], ◌∷◌, ◌++◌, Option}
 use Rattle.uac_units.specs.Hearing.{Reading}
-use Rattle.uac_units.specs.declared.hearing.MeterKind.TheVariants.{Peak, Clipped, Sum}
+use Rattle.uac_units.specs.declared.meter.MeterKind.TheVariants.{Peak, Clipped, Sum}
 use Rattle.uac_words.specs.declared.commands.Invocation.{Invocation}
 use Rattle.uac_describe.specs.declared.status.Status.{Status}
 use Rattle.uac_cli.specs.Call.{IsCall}
 use Rattle.uac_cli.specs.Boxes.{IsFreshCall, fresh_readings}
-use Rattle.uac_cli.specs.Completeness.{IsComplete}
+use Rattle.uac_cli.specs.Completeness.{IsCompleteCall}
 use Rattle.uac_cli.proofs.boxes.run_with_racks.OwnLists as lists
 use Rattle.uac_cli.proofs.boxes.run_with_racks.Goals as goal
 
@@ -30,10 +30,10 @@ from_fresh words shown shown' left left' reads reads' written written' writes wr
 
 -- the same of what the whole input comes to
 whole_fresh : (words : Option Invocation) (shown : List Reading) (left : Option (List ℕ)) (reads reads' : ℕ) (written written' : Option (List ℕ)) (writes writes' : ℕ) (status : Status)
-    → shown ≡ fresh_readings → IsComplete words shown left reads reads' written written' writes writes' status
-    → IsComplete words fresh_readings left reads reads' written written' writes writes' status
+    → shown ≡ fresh_readings → IsCompleteCall words shown left reads reads' written written' writes writes' status
+    → IsCompleteCall words fresh_readings left reads reads' written written' writes writes' status
 whole_fresh words shown left reads reads' written written' writes writes' status same complete =
-    subst (λ (s : List Reading). IsComplete words s left reads reads' written written' writes writes' status) same complete
+    subst (λ (s : List Reading). IsCompleteCall words s left reads reads' written written' writes writes' status) same complete
 
 pub returns-clause-call : goal.returns-clause-call
 returns-clause-call g c =

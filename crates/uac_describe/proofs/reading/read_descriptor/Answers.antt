@@ -1,7 +1,7 @@
 use Rattle.std.proofs.Common.{ℕ, List, ◌<◌, ◌≤◌, length, take, arith, subst, sym, ◌∙◌}
 use Rattle.std.proofs.lemmas.List.{length-take}
 use Rattle.std.specs.Io.KnownBytes.{Consumes}
-use Rattle.uac_describe.specs.SourceReading.{piece_size}
+use Rattle.uac_describe.specs.SourceReading.{descriptor_piece}
 use Rattle.uac_edges.proofs.Consuming.{Consumes-Consumes}
 use Rattle.uac_describe.proofs.Composing.{stopped_at, went_on, ended_by}
 use Rattle.uac_describe.proofs.reading.read_descriptor.Goals as goal
@@ -9,7 +9,7 @@ use Rattle.uac_describe.proofs.reading.read_descriptor.Goals as goal
 pub returns-in-Err-feed-clause-reads : goal.returns-in-Err-feed-clause-reads
 returns-in-Err-feed-clause-reads g c =
     let i = c.loop-reader.invariant in
-    let short : length (take c.in-Ok.count c.take.new.into) ≤ piece_size = let kept = c.take.auto.into in omega (arith, length-take c.in-Ok.count c.take.new.into) in
+    let short : length (take c.in-Ok.count c.take.new.into) ≤ descriptor_piece = let kept = c.take.auto.into in omega (arith, length-take c.in-Ok.count c.take.new.into) in
     stopped_at _ _ _ _ _ _ _ _ _ i.consumed c.in-Ok.ensures.bytes.0 i.quiet short c.in-Err-feed.ensures.answer (c.in-Err-feed.ensures.shown i.going)
 
 pub loop-reader-preserved : goal.loop-reader-preserved
@@ -30,4 +30,4 @@ pub returns-in-Ok-eq0-clause-reads : goal.returns-in-Ok-eq0-clause-reads
 returns-in-Ok-eq0-clause-reads g c =
     let i = c.loop-reader.invariant in
     let some : 0 < length c.take.new.into = let kept = c.take.auto.into in omega arith in
-    ended_by _ _ _ _ _ c.loop-reader.reader.taken c.take.new.into _ _ i.consumed c.in-Ok-eq0.ensures.bytes c.in-Ok-eq0.field-0-test some i.quiet c.reading_at_end.ensures
+    ended_by _ _ _ _ _ c.loop-reader.reader.taken c.take.new.into _ _ i.consumed c.in-Ok-eq0.ensures.bytes c.in-Ok-eq0.field-0-test some i.quiet c.end_of_descriptor.ensures

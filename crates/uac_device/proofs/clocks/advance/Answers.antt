@@ -1,14 +1,14 @@
 use Rattle.std.proofs.Common.{◌∙◌, ap, arith}
-use Rattle.uac_device.specs.DeviceKept.{IsInRange}
+use Rattle.uac_device.specs.DeviceKept.{IsDeviationInRange}
 use Rattle.uac_device.specs.DeviceTurns.{clock_after_advance, ticks_where}
 use Rattle.uac_device.specs.declared.clocks.DomainClock.{DomainClock}
 use Rattle.uac_device.proofs.DeviceKeptLemmas.{first_more, first_read}
-use Rattle.uac_lanes.proofs.Turning.{turned_all, turned_more, untouched, untouched_holds}
+use Rattle.uac_device_streams.proofs.Turning.{turned_all, turned_more, untouched, untouched_holds}
 use Rattle.uac_device.proofs.clocks.advance.Goals as goal
 
 pub advance_one-requires-clause-range : goal.advance_one-requires-clause-range
 advance_one-requires-clause-range c =
-    untouched_holds (λ (k : DomainClock). IsInRange k.deviation) _ c.loop-clock.clocks c.args.clocks.now c.loop-clock.clock-index c.clock-item.result c.requires.range
+    untouched_holds (λ (k : DomainClock). IsDeviationInRange k.deviation) _ c.loop-clock.clocks c.args.clocks.now c.loop-clock.clock-index c.clock-item.result c.requires.range
     (omega arith) c.loop-clock.invariant.turned
 
 pub loop-clock-preserved : goal.loop-clock-preserved

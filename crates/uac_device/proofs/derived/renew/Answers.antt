@@ -1,11 +1,11 @@
 use Rattle.std.proofs.Common.{arith}
-use Rattle.uac_lanes.proofs.Turning.{turned_all, turned_more}
+use Rattle.uac_device_streams.proofs.Turning.{turned_all, turned_more}
 use Rattle.uac_device.proofs.derived.renew.Goals as goal
 
-pub loop-pace-preserved : goal.loop-pace-preserved
-loop-pace-preserved c =
-    turned_more _ c.loop-pace.paces c.args.paces.now c.loop-pace.pace-index c.renew_one.new.pace _ (omega arith)
-    c.loop-pace.invariant c.renew_one.ensures
+pub loop-rate-preserved : goal.loop-rate-preserved
+loop-rate-preserved c =
+    turned_more _ c.loop-rate.rates c.args.rates.now c.loop-rate.rate-index c.renew_one.new.rate _ (omega arith)
+    c.loop-rate.invariant c.renew_one.ensures
 
 pub returns : goal.returns
-returns c = turned_all _ c.loop-pace.paces c.args.paces.now c.loop-pace.pace-index (omega arith) c.loop-pace.invariant
+returns c = turned_all _ c.loop-rate.rates c.args.rates.now c.loop-rate.rate-index (omega arith) c.loop-rate.invariant

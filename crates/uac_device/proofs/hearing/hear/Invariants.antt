@@ -1,5 +1,5 @@
 use Rattle.std.proofs.Common.{◌≡◌, take}
-use Rattle.uac_units.specs.Panel.{readings}
+use Rattle.uac_units.specs.MeterReadings.{readings}
 use Rattle.uac_device.specs.DeviceWorld.{after_frames}
 use Rattle.uac_device.specs.DeviceTurns.{frames_heard}
 use Rattle.uac_device.proofs.hearing.hear.Given as goal

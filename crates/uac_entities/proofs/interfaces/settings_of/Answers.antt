@@ -6,13 +6,13 @@ use Rattle.uac_entities.specs.EntityInterfaces.{setting_of}
 use Rattle.uac_entities.proofs.Kept.{filter_map_more, blank}
 use Rattle.uac_entities.proofs.interfaces.settings_of.Goals as goal
 
-pub loop-alternate-preserved : goal.loop-alternate-preserved
-loop-alternate-preserved c =
-    let l = c.loop-alternate in
+pub loop-declared-preserved : goal.loop-declared-preserved
+loop-declared-preserved c =
+    let l = c.loop-declared in
     let xs = c.args.all.now in
     let h = setting_of c.args.number in
-    let kept : c.setting_of-setting.result ≡ h (get_or xs l.alternate-index blank) = c.setting_of-setting.ensures in
+    let kept : c.setting_of-setting.result ≡ h (get_or xs l.declared-index blank) = c.setting_of-setting.ensures in
     c.in_ok-keep.ensures
     ∙ ap (λ (ys : List Setting). ys ++ option_to_list (c.setting_of-setting.result)) l.invariant
-    ∙ ap (λ (o : Option Setting). filter_map h (take l.alternate-index xs) ++ option_to_list o) kept
-    ∙ sym (filter_map_more h xs l.alternate-index blank c.loop-alternate-test.true)
+    ∙ ap (λ (o : Option Setting). filter_map h (take l.declared-index xs) ++ option_to_list o) kept
+    ∙ sym (filter_map_more h xs l.declared-index blank c.loop-declared-test.true)

@@ -6,13 +6,13 @@ use Rattle.uac_entities.specs.EntityInterfaces.{streaming_interface_at}
 use Rattle.uac_entities.proofs.Kept.{filter_map_more, blank}
 use Rattle.uac_entities.proofs.interfaces.streaming_interfaces_of.Goals as goal
 
-pub loop-alternate-preserved : goal.loop-alternate-preserved
-loop-alternate-preserved c =
-    let l = c.loop-alternate in
+pub loop-declared-preserved : goal.loop-declared-preserved
+loop-declared-preserved c =
+    let l = c.loop-declared in
     let xs = c.args.all.now in
     let h = streaming_interface_at c.args.entities.now c.args.all.now in
-    let kept : c.in_ok-stream.stream ≡ h (get_or xs l.alternate-index blank) = c.in_ok-stream.ensures in
+    let kept : c.in_ok-stream.stream ≡ h (get_or xs l.declared-index blank) = c.in_ok-stream.ensures in
     c.in_ok-keep.ensures
     ∙ ap (λ (ys : List StreamInterface). ys ++ option_to_list (c.in_ok-stream.stream)) l.invariant
-    ∙ ap (λ (o : Option StreamInterface). filter_map h (take l.alternate-index xs) ++ option_to_list o) kept
-    ∙ sym (filter_map_more h xs l.alternate-index blank c.loop-alternate-test.true)
+    ∙ ap (λ (o : Option StreamInterface). filter_map h (take l.declared-index xs) ++ option_to_list o) kept
+    ∙ sym (filter_map_more h xs l.declared-index blank c.loop-declared-test.true)

@@ -5,7 +5,7 @@ use Rattle.uac_descriptor.specs.declared.block.Block as block
 use Rattle.uac_descriptor.specs.declared.block.Block.TheVariants as row
 use Rattle.uac_entities.specs.declared.settings.DeclaredSetting.{DeclaredSetting}
 use Rattle.uac_entities.specs.EntitySettings.{declared_setting_at, declared_settings}
-use Rattle.uac_entities.proofs.BlocksFollowing.{alternates_at, alternates_end, no_alternate}
+use Rattle.uac_entities.proofs.EntitySettingsLemmas.{alternates_at, alternates_end, no_alternate}
 use Rattle.uac_entities.proofs.settings.declared_settings.Goals as goal
 use Rattle.uac_entities.proofs.settings.declared_settings.Goals.{in-Interface+in_ok-keep, in_default}
 
@@ -20,8 +20,8 @@ loop-place-preserved c =
     let whole = ap (λ (ys : List DeclaredSetting). l.all.items ++ ys) (sym one) ∙ l.invariant in
     elim c.match-block.branch [
       | in-Interface+in_ok-keep w ↦
-          (let here : w.declared_setting_at-alternate.result ≡ declared_setting_at b rest =
-          w.declared_setting_at-alternate.ensures ∙ ap (declared_setting_at (row.Interface w.in-Interface.interface)) (take_rest xs (l.place + 1))
+          (let here : w.declared_setting_at-declared.result ≡ declared_setting_at b rest =
+          w.declared_setting_at-declared.ensures ∙ ap (declared_setting_at (row.Interface w.in-Interface.interface)) (take_rest xs (l.place + 1))
           ∙ ap (λ (this : block.Block). declared_setting_at this rest) (sym w.in-Interface.is) in
           ap (λ all. all.items ++ declared_settings rest) w.all-is
           ∙ ap (λ (ys : List DeclaredSetting). ys ++ declared_settings rest)

@@ -2,7 +2,7 @@ use Rattle.std.proofs.Common.{◌≡◌, ◌+◌, ℕ, List, Option, drop, sym, 
 use Rattle.std.specs.Prelude.{slice_get}
 use Rattle.std.specs.List.{cons_option}
 use Rattle.uac_descriptor.specs.declared.standard.Endpoint.{Endpoint}
-use Rattle.uac_entities.proofs.BlocksFollowing.{own_at_stop, own_at_next, own_at_end, get_first, get_later}
+use Rattle.uac_entities.proofs.EntitySettingsLemmas.{own_at_stop, own_at_next, own_at_end, get_first, get_later}
 use Rattle.uac_entities.specs.EntitySettings.{own, endpoint_of}
 use Rattle.uac_entities.proofs.settings.endpoint_following.Goals as goal
 use Rattle.uac_entities.proofs.settings.endpoint_following.Goals.{in-Some+else-left-eq0, in_default}

@@ -1,7 +1,7 @@
 use Rattle.std.proofs.Common.{◌≡◌, ◌+◌, length, List, drop, sym, ap, ◌∙◌, arith}
 use Rattle.std.specs.Option.{is_some}
 use Rattle.uac_descriptor.specs.declared.standard.Endpoint.{Endpoint}
-use Rattle.uac_entities.proofs.BlocksFollowing.{own_at_stop, own_at_next, own_at_end, length-some, length-none}
+use Rattle.uac_entities.proofs.EntitySettingsLemmas.{own_at_stop, own_at_next, own_at_end, length-some, length-none}
 use Rattle.uac_entities.specs.EntitySettings.{own, endpoint_of}
 use Rattle.uac_entities.proofs.settings.endpoints_following.Goals as goal
 use Rattle.uac_entities.proofs.settings.endpoints_following.Goals.{then-is_some, else-is_some}

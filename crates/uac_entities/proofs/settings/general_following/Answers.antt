@@ -2,7 +2,7 @@ use Rattle.std.proofs.Common.{◌+◌, List, Option, drop, sym, ap, ◌∙◌}
 use Rattle.std.specs.Prelude.{slice_get}
 use Rattle.std.specs.List.{cons_option}
 use Rattle.uac_descriptor.specs.declared.streaming.General.{General}
-use Rattle.uac_entities.proofs.BlocksFollowing.{own_at_stop, own_at_next, own_at_end}
+use Rattle.uac_entities.proofs.EntitySettingsLemmas.{own_at_stop, own_at_next, own_at_end}
 use Rattle.uac_entities.specs.EntitySettings.{own, general_of}
 use Rattle.uac_entities.proofs.settings.general_following.Goals as goal
 

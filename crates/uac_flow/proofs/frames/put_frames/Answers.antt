@@ -8,7 +8,7 @@ use Rattle.uac_pcm.specs.Packets.{frames_of_bytes}
 use Rattle.uac_pcm.proofs.PacketsLemmas.{frame_bytes-pos, length-frames_of_bytes, frames_of_bytes-even, unpacked_first, unpacked_short}
 use Rattle.uac_ring.specs.Rings.{ring_frames}
 use Rattle.uac_flow.specs.Flows.{AreFrames}
-use Rattle.uac_flow.proofs.HeldFrames.{put_next}
+use Rattle.uac_flow.proofs.FlowsFrameLemmas.{put_next}
 use Rattle.uac_flow.proofs.frames.put_frames.Goals as goal
 
 pub loop-bytes-init : goal.loop-bytes-init

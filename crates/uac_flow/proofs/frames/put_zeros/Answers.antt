@@ -1,7 +1,7 @@
 -- There is room for each frame where there is for all.
 use Rattle.std.proofs.Common.{◌∙◌, length, replicate, pos, ap}
 use Rattle.std.proofs.lemmas.List.{length-replicate}
-use Rattle.uac_flow.proofs.HeldFrames.{frames_put, zero_further}
+use Rattle.uac_flow.proofs.FlowsFrameLemmas.{frames_put, zero_further}
 use Rattle.uac_flow.proofs.frames.put_zeros.Goals as goal
 
 pub loop-each-preserved : goal.loop-each-preserved

@@ -2,7 +2,7 @@
 use Rattle.std.proofs.Common.{◌≡◌, ◌≤◌, ◌∙◌, ◌+◌, ◌*◌, ℕ, length, take, ap, arith, refl}
 use Rattle.std.proofs.Math.Nat.{mul-le-mul_right}
 use Rattle.arrayvec.specs.ArrayVec.{ArrayVec}
-use Rattle.uac_flow.proofs.HeldFrames.{packed_further}
+use Rattle.uac_flow.proofs.FlowsFrameLemmas.{packed_further}
 use Rattle.uac_flow.proofs.frames.take_frames.Goals as goal
 use Rattle.uac_flow.proofs.frames.take_frames.Goals.{in-Some, in_default}
 

@@ -1,4 +1,4 @@
-use Rattle.uac_gain.proofs.Rising.{whole_down, half_down, whole_up, half_up}
+use Rattle.uac_gain.proofs.GainRiseLemmas.{whole_down, half_down, whole_up, half_up}
 use Rattle.uac_gain.proofs.laws.each_decibel_has_its_gain.Goals as goal
 
 pub returns-clause-down : goal.returns-clause-down

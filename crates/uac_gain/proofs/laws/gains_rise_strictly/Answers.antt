@@ -1,4 +1,4 @@
-use Rattle.uac_gain.proofs.Rising.{gain_of-fits, gain_of-rises, gain_of-audible}
+use Rattle.uac_gain.proofs.GainRiseLemmas.{gain_of-fits, gain_of-rises, gain_of-audible}
 use Rattle.uac_gain.proofs.laws.gains_rise_strictly.Goals as goal
 
 pub returns-clause-fits : goal.returns-clause-fits

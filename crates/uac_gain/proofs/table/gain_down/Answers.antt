@@ -1,4 +1,4 @@
-use Rattle.uac_gain.proofs.Ladder.{down-at}
+use Rattle.uac_gain.proofs.GainTableLemmas.{down-at}
 use Rattle.uac_gain.proofs.table.gain_down.Goals as goal
 
 pub returns : goal.returns

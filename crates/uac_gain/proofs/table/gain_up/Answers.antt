@@ -1,4 +1,4 @@
-use Rattle.uac_gain.proofs.Ladder.{up-at}
+use Rattle.uac_gain.proofs.GainTableLemmas.{up-at}
 use Rattle.uac_gain.proofs.table.gain_up.Goals as goal
 
 pub returns : goal.returns

@@ -13,4 +13,4 @@ returns c = λ number hertz bytes.
     (let some = c.if-count-eq0.false in omega arith)
     c.draw-drawn.ensures.moves c.draw-eights.ensures.moves c.draw-lost.ensures.moves
     c.draw-drawn.ensures.drawn c.draw-eights.ensures.drawn c.draw-lost.ensures.drawn
-    c.deviation_line.ensures (c.place_after_deviation.ensures number hertz c.draw-lost.new.self.x bytes)
+    c.deviation_line.ensures (c.next_after_deviation.ensures number hertz c.draw-lost.new.self.x bytes)

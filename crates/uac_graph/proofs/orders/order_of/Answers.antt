@@ -1,5 +1,5 @@
 use Rattle.std.proofs.Common.{◌∙◌, ap, sym, subst, ℕ, Vec, Global}
-use Rattle.uac_graph.specs.Orders.{IsOrder, holds}
+use Rattle.uac_graph.specs.Orders.{IsRenderOrder, holds}
 use Rattle.uac_graph.proofs.Ordering.{ends_all, ends_more, ends_same, held_none, order_none}
 use Rattle.uac_graph.proofs.Ticking.{end_signal, end_stops}
 use Rattle.uac_graph.proofs.orders.order_of.Goals as goal
@@ -34,7 +34,7 @@ loop-entity-preserved c =
     elim c.if-is_end.branch [
       | then-is_end+in_ok-visit w ↦
           record {
-            order = subst (λ (v : Vec ℕ Global). IsOrder entities v.items) (sym w.places-is) w.in_ok-visit.ensures.order;
+            order = subst (λ (v : Vec ℕ Global). IsRenderOrder entities v.items) (sym w.places-is) w.in_ok-visit.ensures.order;
             all =
                 ends_more entities slice domain i c.entity-item.result c.loop-entity.places.items c.if-is_end.places.items c.as_slice-entities.ensures
                 c.loop-entity-test.true c.entity-item.is (sym c.is_end.ensures ∙ w.if-is_end.true) all
@@ -42,7 +42,7 @@ loop-entity-preserved c =
           }
       | else-is_end w ↦
           record {
-            order = subst (λ (v : Vec ℕ Global). IsOrder entities v.items) (sym w.places-is) c.loop-entity.invariant.order;
+            order = subst (λ (v : Vec ℕ Global). IsRenderOrder entities v.items) (sym w.places-is) c.loop-entity.invariant.order;
             all =
                 ends_same entities slice domain i c.entity-item.result c.if-is_end.places.items c.as_slice-entities.ensures
                 c.loop-entity-test.true c.entity-item.is (sym c.is_end.ensures ∙ w.if-is_end.false)

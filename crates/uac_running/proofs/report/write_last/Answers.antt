@@ -1,5 +1,5 @@
 use Rattle.std.proofs.Common.{[], ◌∷◌, map}
-use Rattle.uac_units.specs.Panel.{readings}
+use Rattle.uac_units.specs.MeterReadings.{readings}
 use Rattle.uac_transcript.specs.Transcript.{says_meter, says_renders}
 use Rattle.uac_transcript.proofs.PrintingLemmas.{Prints-after, Prints-line, Prints-stopped}
 use Rattle.uac_running.proofs.report.write_last.Goals as goal

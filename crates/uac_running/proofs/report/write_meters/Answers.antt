@@ -1,6 +1,6 @@
 use Rattle.std.proofs.Common.{◌<◌, length, arith, ◌∙◌}
 use Rattle.uac_units.specs.Hearing.{Reading}
-use Rattle.uac_units.specs.Panel.{readings}
+use Rattle.uac_units.specs.MeterReadings.{readings}
 use Rattle.uac_transcript.specs.Transcript.{says_meter}
 use Rattle.uac_transcript.proofs.PrintingLemmas.{front_of_lines, one_line_more}
 use Rattle.uac_running.proofs.Printed.{meter_at}

@@ -1,6 +1,6 @@
 use Rattle.std.proofs.Common.{◌≡◌, map, take}
 use Rattle.std.specs.Io.KnownBytes.{Appends}
-use Rattle.uac_units.specs.Panel.{readings}
+use Rattle.uac_units.specs.MeterReadings.{readings}
 use Rattle.uac_transcript.specs.Transcript.{says_meter}
 use Rattle.uac_transcript.specs.Printing.{text_of}
 use Rattle.uac_running.proofs.report.write_meters.Given as goal

@@ -2,14 +2,14 @@ use Rattle.std.proofs.Common.{◌≡◌, ◌≤◌, ◌++◌, true, map, length}
 use Rattle.std.specs.List.{list_all}
 use Rattle.uac_script.specs.Words.{words_left, bytes_left}
 use Rattle.uac_script.specs.LineReading.{is_mark, mark_of}
-use Rattle.uac_script.specs.Line.{said_mark}
+use Rattle.uac_script.specs.Line.{phrase_mark}
 use Rattle.uac_script.specs.Phrase.{is_id}
 use Rattle.uac_script.proofs.lists.marks.Given as goal
 
 abbrev pub invariant-loop-word : goal.invariant-loop-word
 invariant-loop-word l = record {
-  so_far : map mark_of (words_left l.fn.words.rest) ≡ map said_mark l.marks.items ++ map mark_of (words_left l.words.rest);
-  in_range : list_all (λ loss. is_id loss.interface) (map said_mark l.marks.items) ≡ true;
+  so_far : map mark_of (words_left l.fn.words.rest) ≡ map phrase_mark l.marks.items ++ map mark_of (words_left l.words.rest);
+  in_range : list_all (λ loss. is_id loss.interface) (map phrase_mark l.marks.items) ≡ true;
   marks : list_all is_mark (words_left l.words.rest) ≡ true;
   room : length l.marks.items ≤ 24;
 }

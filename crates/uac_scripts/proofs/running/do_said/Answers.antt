@@ -1,5 +1,5 @@
 use Rattle.std.proofs.Common.{ap}
-use Rattle.uac_units.specs.Panel.{readings}
+use Rattle.uac_units.specs.MeterReadings.{readings}
 use Rattle.uac_scripts.proofs.HandingOn.{line_failed, line_handed_on}
 use Rattle.uac_scripts.proofs.running.do_said.Goals as goal
 

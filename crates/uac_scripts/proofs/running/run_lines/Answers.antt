@@ -1,6 +1,6 @@
 use Rattle.std.proofs.Common.{◌≡◌, ◌+◌, ◌∙◌, Ok, Err, refl, ap, arith}
 use Rattle.uac_script.specs.ScriptLines.{Splitting}
-use Rattle.uac_units.specs.Panel.{readings}
+use Rattle.uac_units.specs.MeterReadings.{readings}
 use Rattle.uac_scripts.specs.Running.{stop_outcome}
 use Rattle.uac_scripts.specs.ScriptTranscript.{ending_at, last_line}
 use Rattle.uac_scripts.proofs.Following.{far_at_first, not_ended, has_line, far_on, failed_line, finished_run, stopped_run, left_faultless, stop_untold}

@@ -1,5 +1,5 @@
 use Rattle.std.proofs.Common.{rules}
-use Rattle.uac_sentence.proofs.SentenceLaw.{none_sentence, sentence_none, sentence_unique}
+use Rattle.uac_sentence.proofs.SentenceLemmas.{none_sentence, sentence_none, sentence_unique}
 use Rattle.uac_sentence.proofs.laws.no_fault_is_a_sentence.Goals as goal
 
 pub returns-clause-exact : goal.returns-clause-exact

@@ -1,6 +1,6 @@
 use Rattle.std.proofs.Common.{arith}
 use Rattle.uac_sentence.specs.Grammar.{first_fault, grammar, start}
-use Rattle.uac_sentence.proofs.FaultLaw.{shown_stays}
+use Rattle.uac_sentence.proofs.FaultLemmas.{shown_stays}
 use Rattle.uac_sentence.proofs.laws.shown_fault_stays.Goals as goal
 
 pub returns : goal.returns

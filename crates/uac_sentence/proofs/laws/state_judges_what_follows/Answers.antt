@@ -1,7 +1,7 @@
 use Rattle.std.proofs.Common.{rules, subst, sym}
 use Rattle.uac_descriptor.specs.BlockReading.{AreBytes}
 use Rattle.uac_sentence.specs.Sentence.{IsSentence}
-use Rattle.uac_sentence.proofs.ProgressLaw.{block_read, read_faults, read_sentence}
+use Rattle.uac_sentence.proofs.ProgressLemmas.{block_read, read_faults, read_sentence}
 use Rattle.uac_sentence.proofs.laws.state_judges_what_follows.Goals as goal
 
 pub returns-clause-goes_on : goal.returns-clause-goes_on

@@ -1,4 +1,4 @@
-use Rattle.uac_settle.proofs.Gaps.{gap_begins, gap_interval, gap_lost_report}
+use Rattle.uac_settle.proofs.SettlingGapLemmas.{gap_begins, gap_interval, gap_lost_report}
 use Rattle.uac_settle.proofs.laws.gaps_begin_and_go_on.Goals as goal
 
 pub returns : goal.returns

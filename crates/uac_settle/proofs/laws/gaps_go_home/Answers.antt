@@ -1,4 +1,4 @@
-use Rattle.uac_settle.proofs.Gaps.{gap_home, gap_over_integers}
+use Rattle.uac_settle.proofs.SettlingGapLemmas.{gap_home, gap_over_integers}
 use Rattle.uac_settle.proofs.laws.gaps_go_home.Goals as goal
 
 pub returns : goal.returns

@@ -1,4 +1,4 @@
-use Rattle.uac_settle.proofs.TurnsGoOn.{ends_by_count, goes_on}
+use Rattle.uac_settle.proofs.SettlingTurnLemmas.{ends_by_count, goes_on}
 use Rattle.uac_settle.proofs.laws.stretches_go_on.Goals as goal
 
 pub returns : goal.returns

@@ -1,8 +1,8 @@
 use Rattle.std.proofs.Common.{◌==◌, ◌&&◌, ◌∙◌, rules, tests}
 use Rattle.std.proofs.lemmas.Iterator.{YieldsList-from_slice}
 use Rattle.std.proofs.lemmas.Iterator.Search.{any_from_yields_List}
-use Rattle.uac_script.specs.Line.{said_mark}
-use Rattle.uac_script.specs.Phrase.{SaidMark}
+use Rattle.uac_script.specs.Line.{phrase_mark}
+use Rattle.uac_script.specs.Phrase.{PhraseMark}
 use Rattle.uac_script.specs.declared.line.Mark.{Mark}
 use Rattle.uac_streaming.specs.StreamingWorld as spec
 use Rattle.uac_streaming.proofs.Lost.{any_of_map}
@@ -12,4 +12,4 @@ pub returns : goal.returns
 returns c =
     any_from_yields_List (λ (m : Mark). spec.marks_report m.kind && m.interface == c.args.interface) _ _ _ c.any.ensures.ran
     (YieldsList-from_slice c.args.marks.now cc) (λ x b q k. search (rules, tests))
-    ∙ any_of_map (λ (l : SaidMark). spec.marks_report l.kind && spec.is_at l.interface c.args.interface) said_mark c.args.marks.now
+    ∙ any_of_map (λ (l : PhraseMark). spec.marks_report l.kind && spec.is_at l.interface c.args.interface) phrase_mark c.args.marks.now

@@ -1,4 +1,4 @@
-use Rattle.uac_host.specs.Calls.{heard_in}
+use Rattle.uac_host.specs.HostCalls.{heard_in}
 use Rattle.uac_streaming.proofs.Turned.{fetched_told}
 use Rattle.uac_streaming.proofs.printing.write_fetched.Goals as goal
 

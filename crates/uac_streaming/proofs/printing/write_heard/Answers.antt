@@ -2,7 +2,7 @@ use Rattle.std.proofs.Common.{◌≤◌, sym, ap, subst, List, [], ℤ, map, len
 use Rattle.std.specs.Io.KnownBytes.{Appends}
 use Rattle.std.proofs.lemmas.List.{take_all}
 use Rattle.std.proofs.lemmas.Option.{get_or_from_slice_get, slice_get_within}
-use Rattle.uac_host.specs.Calls.{heard_in}
+use Rattle.uac_host.specs.HostCalls.{heard_in}
 use Rattle.uac_transcript.specs.Transcript.{says_frame}
 use Rattle.uac_transcript.specs.Printing.{text_of}
 use Rattle.uac_transcript.proofs.PrintingLemmas.{front_of_lines, one_line_more}

@@ -1,7 +1,7 @@
 use Rattle.std.proofs.Common.{◌≡◌, map, take}
 use Rattle.std.specs.Io.KnownBytes.{Appends}
 use Rattle.uac_host.specs.HostWorld.{HostWorld}
-use Rattle.uac_host.specs.Calls.{heard_in}
+use Rattle.uac_host.specs.HostCalls.{heard_in}
 use Rattle.uac_host.specs.HostKept as kept
 use Rattle.uac_transcript.specs.Transcript.{says_frame}
 use Rattle.uac_transcript.specs.Printing.{text_of}

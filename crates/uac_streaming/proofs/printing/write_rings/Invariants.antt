@@ -1,7 +1,7 @@
 use Rattle.std.proofs.Common.{◌≡◌, Bool, map, take, drop, flat_map, if◌then◌else◌, [], ◌∷◌}
 use Rattle.std.specs.Io.KnownBytes.{Appends}
 use Rattle.uac_entities.specs.declared.stream.StreamInterface.{StreamInterface}
-use Rattle.uac_lanes.specs.InterfaceStreams.{bits_of}
+use Rattle.uac_device_streams.specs.InterfaceStreams.{bits_of}
 use Rattle.uac_transcript.specs.Printing.{text_of}
 use Rattle.uac_streaming.specs.FoundRings.{says_found}
 use Rattle.uac_streaming.proofs.printing.write_rings.Given as goal

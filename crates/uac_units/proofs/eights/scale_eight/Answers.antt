@@ -1,8 +1,8 @@
 use Rattle.std.proofs.Common.{◌∙◌, ap, map, subst, sym, FitsSigned, w32, w64}
 use Rattle.std.specs.Simd.Lanes.{Each1, zip2}
-use Rattle.uac_gain.specs.Gain.{saturated}
+use Rattle.uac_gain.specs.Gain.{nearest_in_32_bits}
 use Rattle.uac_units.specs.SampleLanes.{IsGain, floored_by}
-use Rattle.uac_units.proofs.SampleLanesLemmas.{saturated-zip2, handed, handed-samples, handed-gains}
+use Rattle.uac_units.proofs.SampleLanesLemmas.{nearest_in_32_bits-zip2, handed, handed-samples, handed-gains}
 use Rattle.uac_units.proofs.eights.scale_eight.Goals as goal
 
 pub multiply_eight-requires-clause-samples : goal.multiply_eight-requires-clause-samples
@@ -18,11 +18,11 @@ pub returns-clause-lanes : goal.returns-clause-lanes
 returns-clause-lanes c =
     handed-samples c.saturate_eight.result c.saturate_eight.ensures.fits
     ∙ c.saturate_eight.ensures.lanes
-    ∙ ap (map saturated) (handed c.multiply_eight.result c.multiply_eight.ensures.fits)
-    ∙ ap (map saturated) c.multiply_eight.ensures.lanes
-    ∙ ap (λ xs. map saturated (zip2 floored_by xs (map (mir.Val.to_z w64) (map (mir.Val.of_z w64) c.args.gains)))) (handed-samples c.args.samples c.requires.samples)
-    ∙ ap (λ gs. map saturated (zip2 floored_by c.args.samples gs)) (handed-gains c.args.gains c.requires.gains)
-    ∙ saturated-zip2 c.args.samples c.args.gains
+    ∙ ap (map nearest_in_32_bits) (handed c.multiply_eight.result c.multiply_eight.ensures.fits)
+    ∙ ap (map nearest_in_32_bits) c.multiply_eight.ensures.lanes
+    ∙ ap (λ xs. map nearest_in_32_bits (zip2 floored_by xs (map (mir.Val.to_z w64) (map (mir.Val.of_z w64) c.args.gains)))) (handed-samples c.args.samples c.requires.samples)
+    ∙ ap (λ gs. map nearest_in_32_bits (zip2 floored_by c.args.samples gs)) (handed-gains c.args.gains c.requires.gains)
+    ∙ nearest_in_32_bits-zip2 c.args.samples c.args.gains
 
 pub returns-clause-fits : goal.returns-clause-fits
 returns-clause-fits c = subst (Each1 (FitsSigned w32)) (sym (handed-samples c.saturate_eight.result c.saturate_eight.ensures.fits)) c.saturate_eight.ensures.fits

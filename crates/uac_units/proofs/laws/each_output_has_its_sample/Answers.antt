@@ -1,4 +1,4 @@
-use Rattle.uac_units.proofs.Samples.{length-job_samples, get_or-job_samples}
+use Rattle.uac_units.proofs.RenderingLemmas.{length-job_samples, get_or-job_samples}
 use Rattle.uac_units.proofs.laws.each_output_has_its_sample.Goals as goal
 
 pub returns-clause-length : goal.returns-clause-length

@@ -1,4 +1,4 @@
-use Rattle.uac_units.proofs.Samples.{selector-in_a_row, feature-in_a_row, effect-in_a_row}
+use Rattle.uac_units.proofs.RenderingLemmas.{selector-in_a_row, feature-in_a_row, effect-in_a_row}
 use Rattle.uac_units.proofs.laws.pins_are_the_sources.Goals as goal
 
 pub returns-clause-selector : goal.returns-clause-selector

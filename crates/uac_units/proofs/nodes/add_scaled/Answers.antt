@@ -1,15 +1,15 @@
 use Rattle.std.proofs.Common.{◌∙◌, ap, map, subst, sym, FitsSigned, to_z, w32, w64, arith, ◌≤◌, ◌+ℤ◌}
 use Rattle.std.specs.Simd.Lanes.{Each1, zip2}
 use Rattle.std.proofs.lemmas.Int.{to_z-of_z}
-use Rattle.uac_gain.specs.Gain.{scaled}
-use Rattle.uac_units.specs.SampleLanes.{HasRoom, together}
+use Rattle.uac_gain.specs.Gain.{scaled_sample}
+use Rattle.uac_units.specs.SampleLanes.{SumFits, together}
 use Rattle.uac_units.proofs.SampleLanesLemmas.{given, handed, handed-samples, room-lanes}
 use Rattle.uac_units.proofs.NodeLanes.{each-below, more-sums, silent-sums}
 use Rattle.uac_units.proofs.nodes.add_scaled.Goals as goal
 use Rattle.uac_units.proofs.nodes.add_scaled.Goals.{then-bits-eq0, else-bits-eq0}
 
 pub add_eight-requires-clause-room : goal.add_eight-requires-clause-room
-add_eight-requires-clause-room c = subst (Each1 HasRoom) (sym (handed c.args.sums (room-lanes c.args.sums c.requires.room))) c.requires.room
+add_eight-requires-clause-room c = subst (Each1 SumFits) (sym (handed c.args.sums (room-lanes c.args.sums c.requires.room))) c.requires.room
 
 pub add_eight-requires-clause-samples : goal.add_eight-requires-clause-samples
 add_eight-requires-clause-samples c =
@@ -26,7 +26,7 @@ returns-clause-lanes c = elim c.if-bits-eq0.branch [
       ∙ ap (λ sums. zip2 ◌+ℤ◌ sums (given w.scale_one.result)) (handed c.args.sums (room-lanes c.args.sums c.requires.room))
       ∙ ap (zip2 ◌+ℤ◌ c.args.sums)
       (handed-samples w.scale_one.result w.scale_one.ensures.fits ∙ w.scale_one.ensures.lanes
-      ∙ ap (λ s. map (scaled s) c.args.gains) (to_z-of_z w32 c.args.sample c.ranges.sample))
+      ∙ ap (λ s. map (scaled_sample s) c.args.gains) (to_z-of_z w32 c.args.sample c.ranges.sample))
       ∙ more-sums c.args.sums c.args.sample c.args.gains
 ]
 

@@ -2,10 +2,10 @@ use Rattle.std.proofs.Common.{◌∙◌, ap, map, subst, sym, FitsSigned, to_z, 
 use Rattle.std.specs.Simd.Lanes.{Each1}
 use Rattle.std.proofs.lemmas.Int.{to_z-of_z}
 use Rattle.std.proofs.lemmas.Simd.{Each1-weaker}
-use Rattle.uac_gain.specs.Gain.{scaled}
+use Rattle.uac_gain.specs.Gain.{scaled_sample}
 use Rattle.uac_units.specs.SampleLanes.{IsGain, together}
 use Rattle.uac_units.proofs.SampleLanesLemmas.{handed-samples}
-use Rattle.uac_units.proofs.NodeLanes.{are-gains, each-below, wide-is, wide-asked, scaled-fits, wide-products}
+use Rattle.uac_units.proofs.NodeLanes.{are-gains, each-below, wide-is, wide-asked, scaled_sample-fits, wide-products}
 use Rattle.uac_units.proofs.nodes.scale_one.Goals as goal
 use Rattle.uac_units.proofs.nodes.scale_one.Goals.{then-bits-eq-UNITY, else-bits-eq-UNITY, then-bits-lt-UNITY, else-bits-lt-UNITY}
 
@@ -22,7 +22,7 @@ scale_eight-requires-clause-gains c = subst (Each1 IsGain) (sym (wide-is c.args.
 
 pub returns-clause-lanes : goal.returns-clause-lanes
 returns-clause-lanes c =
-    let sample = ap (λ s. map (scaled s) c.args.gains) (to_z-of_z w32 c.args.sample c.ranges.sample) in
+    let sample = ap (λ s. map (scaled_sample s) c.args.gains) (to_z-of_z w32 c.args.sample c.ranges.sample) in
     elim c.if-bits-eq-UNITY.branch [
       | then-bits-eq-UNITY w ↦
           ap (map (to_z w64)) w.result-is ∙ handed-samples w.keep_or_silence.result w.keep_or_silence.ensures.fits ∙ w.keep_or_silence.ensures.lanes ∙ sample
@@ -36,4 +36,4 @@ returns-clause-lanes c =
     ]
 
 pub returns-clause-fits : goal.returns-clause-fits
-returns-clause-fits c = subst (Each1 (FitsSigned w32)) (sym (returns-clause-lanes c)) (scaled-fits c.args.sample c.args.gains)
+returns-clause-fits c = subst (Each1 (FitsSigned w32)) (sym (returns-clause-lanes c)) (scaled_sample-fits c.args.sample c.args.gains)

@@ -12,6 +12,6 @@ returns-in_err-matches c =
 
 pub returns : goal.returns
 returns c =
-    let by_clap = answered_as_asked _ c.in_ok-matches.matches c.answer.result c.in_ok-matches.ensures (search rules) in
-    let plainly = answers_plainly c.args.words.now c.answer.result by_clap in
-    record { by_clap = by_clap; plainly = plainly; line = answers_line _ c.answer.result plainly }
+    let by_clap = answered_as_asked _ c.in_ok-matches.matches c.answer_to_words.result c.in_ok-matches.ensures (search rules) in
+    let plainly = answers_plainly c.args.words.now c.answer_to_words.result by_clap in
+    record { by_clap = by_clap; plainly = plainly; line = answers_line _ c.answer_to_words.result plainly }

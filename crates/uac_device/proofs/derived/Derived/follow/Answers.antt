@@ -4,9 +4,9 @@ use Rattle.uac_store.specs.declared.keys.Key.{Key}
 use Rattle.uac_entities.specs.declared.entity.Entity.{Entity}
 use Rattle.uac_graph.specs.GraphControls.{controls_in}
 use Rattle.uac_graph.specs.Jobs.{AreJobs}
-use Rattle.uac_device.specs.Following.{IsDerived, IsPace, renewed_pace}
+use Rattle.uac_device.specs.Following.{IsDerived, IsDomainRate, renewed_rate}
 use Rattle.uac_device.proofs.FollowingLemmas.{renewed_paces, same_paces}
-use Rattle.uac_lanes.proofs.Turning.{turned_back}
+use Rattle.uac_device_streams.proofs.Turning.{turned_back}
 use Rattle.uac_device.proofs.derived.Derived.follow.Goals as goal
 
 pub returns-then-not-sets_control : goal.returns-then-not-sets_control
@@ -23,10 +23,10 @@ returns-then-names_clock c before is left =
           subst (λ (graph : List Entity). AreJobs graph (controls_in controls) c.renew.new.jobs) c.requires.graph
           (c.renew.ensures (controls_in before) (subst (λ (graph : List Entity). AreJobs graph (controls_in before) c.args.self.now.jobs) (sym c.requires.graph) is.asked) left.others);
       paced =
-          subst (All (IsPace entities controls))
-          (sym (turned_back (renewed_pace entities controls) c.args.self.now.paces.len c.args.self.now.paces.items c.deref_mut.result.now c.renew-then-names_clock.new.paces c.renew-then-names_clock.ensures
+          subst (All (IsDomainRate entities controls))
+          (sym (turned_back (renewed_rate entities controls) c.args.self.now.rates.len c.args.self.now.rates.items c.deref_mut.result.now c.renew-then-names_clock.new.rates c.renew-then-names_clock.ensures
           c.deref_mut.ensures.value (omega arith)))
-          (renewed_paces entities controls c.args.self.now.paces.items);
+          (renewed_paces entities controls c.args.self.now.rates.items);
       heard = is.heard;
     }
 
@@ -38,6 +38,6 @@ returns-else-names_clock c before is left =
           subst (λ (graph : List Entity). AreJobs graph (controls_in controls) c.renew.new.jobs) c.requires.graph
           (c.renew.ensures (controls_in before) (subst (λ (graph : List Entity). AreJobs graph (controls_in before) c.args.self.now.jobs) (sym c.requires.graph) is.asked) left.others);
       paced =
-          same_paces c.args.function.now.entities before controls (c.args.setup.now.index / 256) c.args.self.now.paces.items left.others (sym c.names_clock.ensures ∙ c.if-names_clock.false) is.paced;
+          same_paces c.args.function.now.entities before controls (c.args.setup.now.index / 256) c.args.self.now.rates.items left.others (sym c.names_clock.ensures ∙ c.if-names_clock.false) is.paced;
       heard = is.heard;
     }

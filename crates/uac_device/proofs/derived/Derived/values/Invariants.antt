@@ -1,4 +1,4 @@
 use Rattle.uac_device.proofs.derived.Derived.values.Given as goal
 
-abbrev pub invariant-loop-pace : goal.invariant-loop-pace
-invariant-loop-pace l = Unit {0}
+abbrev pub invariant-loop-rate : goal.invariant-loop-rate
+invariant-loop-rate l = Unit {0}

@@ -2,8 +2,7 @@ use Rattle.std.proofs.Common.{◌≡◌, ◌∙◌, ◌&&◌, ap, subst, sym, tr
 use Rattle.std.specs.Option.{option_map}
 use Rattle.std.proofs.Math.Bool.{and-false}
 use Rattle.uac_alt.specs.AltStreams as alt
-use Rattle.uac_request.specs.Requests.{AnswerFields, answer_fields, sets_interface}
-use Rattle.uac_device.specs.DeviceWorld.{tells_done}
+use Rattle.uac_request.specs.Requests.{AnswerFields, answer_fields, sets_interface, is_done_answer}
 use Rattle.uac_device.specs.DeviceKept.{DeviceFields, IsControlled}
 use Rattle.uac_device.specs.contracts.device.Device.{the_view}
 use Rattle.uac_device.proofs.Controlled.{begun_fits, control_else, control_then}
@@ -23,19 +22,19 @@ returns-then-is_done c =
     let p = c.args.setup.now in
     let told : AnswerFields = answer_fields c.answer-answer.result in
     let sets : sets_interface p ≡ true = sym c.sets_interface.ensures ∙ c.if-sets_interface.true in
-    let done : tells_done told ≡ true = sym c.is_done.ensures ∙ c.if-is_done.true in
-    let new : DeviceFields = record (the_view c.self.inside) { controls = c.answer-answer.new.store; settings = c.answer-answer.new.settings; lanes = c.restart.new.self } in
+    let done : is_done_answer told ≡ true = sym c.is_done.ensures ∙ c.if-is_done.true in
+    let new : DeviceFields = record (the_view c.self.inside) { controls = c.answer-answer.new.store; settings = c.answer-answer.new.settings; device_streams = c.restart.new.self } in
     subst (λ (device : DeviceFields). IsControlled p c.args.sent.now told device new) c.self.view_is
     (control_then (the_view c.self.inside) c.answer-answer.new.store c.answer-answer.new.settings p c.args.sent.now told c.answer-answer.ensures.answer
     c.answer-answer.ensures.held c.restart.new.self (option_map alt.stream_fields c.stream_asked-begun.result)
-    (ap (λ (b : Bool). b && tells_done told) sets ∙ done) c.stream_asked-begun.ensures c.restart.ensures.stands)
+    (ap (λ (b : Bool). b && is_done_answer told) sets ∙ done) c.stream_asked-begun.ensures c.restart.ensures.stands)
 
 pub returns-else-sets_interface : goal.returns-else-sets_interface
 returns-else-sets_interface c =
     let p = c.args.setup.now in
     let told : AnswerFields = answer_fields c.answer-answer.result in
     let new : DeviceFields = record (the_view c.self.inside) { controls = c.answer-answer.new.store; settings = c.answer-answer.new.settings } in
-    let else_where : (sets_interface p && tells_done told) ≡ false → IsControlled p c.args.sent.now told c.args.self.now new =
+    let else_where : (sets_interface p && is_done_answer told) ≡ false → IsControlled p c.args.sent.now told c.args.self.now new =
     λ test.
     subst (λ (device : DeviceFields). IsControlled p c.args.sent.now told device new) c.self.view_is
     (control_else (the_view c.self.inside) c.answer-answer.new.store c.answer-answer.new.settings p c.args.sent.now told c.answer-answer.ensures.answer
@@ -46,7 +45,7 @@ returns-else-sets_interface c =
           (else_where (ap (λ (b : Bool). sets_interface p && b) (sym w.is_done.ensures ∙ w.if-is_done.false) ∙ and-false (sets_interface p)))
       | else-sets_interface-via-else-sets_interface w ↦
           subst (IsControlled p c.args.sent.now told c.args.self.now) (sym w.self-is)
-          (else_where (ap (λ (b : Bool). b && tells_done told) (sym c.sets_interface.ensures ∙ w.if-sets_interface.false)))
+          (else_where (ap (λ (b : Bool). b && is_done_answer told) (sym c.sets_interface.ensures ∙ w.if-sets_interface.false)))
     ]
 
 pub invariant_of-self : goal.invariant_of-self

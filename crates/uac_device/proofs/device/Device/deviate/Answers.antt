@@ -2,11 +2,11 @@ use Rattle.std.proofs.Common.{◌≡◌, ◌∙◌, ◌++◌, ◌<◌, ap, arith
 use Rattle.std.proofs.lemmas.Int.{to_z-of_z}
 use Rattle.std.specs.List.{All}
 use Rattle.uac_device.specs.declared.clocks.DomainClock.{DomainClock}
-use Rattle.uac_device.specs.DeviceKept.{DeviceFields, IsInRange, DeviceStands}
+use Rattle.uac_device.specs.DeviceKept.{DeviceFields, IsDeviationInRange, DeviceStands}
 use Rattle.uac_device.specs.DeviceTurns.{clock_after_deviation}
 use Rattle.uac_device.specs.contracts.device.Device.{the_view}
 use Rattle.uac_device.proofs.DeviceKeptLemmas.{deviated_domains, deviated_phases, deviated_range, deviated_stands}
-use Rattle.uac_lanes.proofs.Turning.{put_back}
+use Rattle.uac_device_streams.proofs.Turning.{put_back}
 use Rattle.uac_device.proofs.device.Device.deviate.Goals as goal
 
 pub invariant_of-self : goal.invariant_of-self
@@ -26,7 +26,7 @@ invariant_of-self c =
             ∙ deviated_domains c.args.domain c.args.ppm c.self.inside.clocks.items
             ∙ c.self.invariant.0.domains;
         clocks =
-            subst (λ (clocks : List DomainClock). All (λ k. IsInRange k.deviation) clocks) (sym turned)
+            subst (λ (clocks : List DomainClock). All (λ k. IsDeviationInRange k.deviation) clocks) (sym turned)
             (deviated_range c.args.domain c.args.ppm c.self.inside.clocks.items (c.requires.low, c.requires.high) c.self.invariant.0.clocks);
         phases =
             subst (λ (clocks : List DomainClock). All (λ k. k.phase < 65536) clocks) (sym turned)

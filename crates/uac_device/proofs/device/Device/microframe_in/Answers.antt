@@ -2,11 +2,11 @@ use Rattle.std.proofs.Common.{subst, sym}
 use Rattle.uac_device.specs.DeviceWorld.{frames_in, packet_in}
 use Rattle.uac_device.specs.DeviceKept.{DeviceFields, DeviceStands}
 use Rattle.uac_device.specs.contracts.device.Device.{the_view}
-use Rattle.uac_device.proofs.Streaming.{device_with_lanes, sent_stands}
+use Rattle.uac_device.proofs.Streaming.{device_with_streams, sent_stands}
 use Rattle.uac_device.proofs.device.Device.microframe_in.Goals as goal
 
 pub invariant_of-self : goal.invariant_of-self
-invariant_of-self c = (device_with_lanes (the_view c.self.inside) c.send.new.self c.self.invariant.0 c.send.ensures.ports, c.self.invariant.1, c.self.invariant.2)
+invariant_of-self c = (device_with_streams (the_view c.self.inside) c.send.new.self c.self.invariant.0 c.send.ensures.ports, c.self.invariant.1, c.self.invariant.2)
 
 pub returns-clause-stands : goal.returns-clause-stands
 returns-clause-stands c w stands =

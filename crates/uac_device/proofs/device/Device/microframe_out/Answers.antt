@@ -3,11 +3,11 @@ use Rattle.std.specs.Option.{option_map}
 use Rattle.uac_device.specs.DeviceWorld.{arrival_in}
 use Rattle.uac_device.specs.DeviceKept.{DeviceFields, DeviceStands}
 use Rattle.uac_device.specs.contracts.device.Device.{the_view}
-use Rattle.uac_device.proofs.Streaming.{device_with_lanes, received_stands}
+use Rattle.uac_device.proofs.Streaming.{device_with_streams, received_stands}
 use Rattle.uac_device.proofs.device.Device.microframe_out.Goals as goal
 
 pub invariant_of-self : goal.invariant_of-self
-invariant_of-self c = (device_with_lanes (the_view c.self.inside) c.receive.new.self c.self.invariant.0 c.receive.ensures.ports, c.self.invariant.1, c.self.invariant.2)
+invariant_of-self c = (device_with_streams (the_view c.self.inside) c.receive.new.self c.self.invariant.0 c.receive.ensures.ports, c.self.invariant.1, c.self.invariant.2)
 
 pub returns-clause-stands : goal.returns-clause-stands
 returns-clause-stands c w stands =

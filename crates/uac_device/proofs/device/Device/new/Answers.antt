@@ -2,9 +2,9 @@ use Rattle.std.proofs.Common.{◌∙◌, ◌<◌, ap, map, subst, sym, List}
 use Rattle.std.specs.List.{All}
 use Rattle.uac_request.specs.Requests.{AreSettingsOf}
 use Rattle.uac_device.specs.declared.clocks.DomainClock.{DomainClock}
-use Rattle.uac_device.specs.DeviceKept.{IsInRange}
+use Rattle.uac_device.specs.DeviceKept.{IsDeviationInRange}
 use Rattle.uac_device.proofs.DeviceKeptLemmas.{resting_domains, resting_phases, resting_range}
-use Rattle.uac_lanes.specs.Lanes.{ports}
+use Rattle.uac_device_streams.specs.DeviceStreams.{ports}
 use Rattle.uac_device.proofs.Played.{fresh_stands}
 use Rattle.uac_device.proofs.Streaming.{ports_idle}
 use Rattle.uac_device.proofs.device.Device.new.Goals as goal
@@ -18,9 +18,9 @@ invariant_of-result c =
             subst (AreSettingsOf c.args.function) (sym c.new-settings.ensures) (c.each_interface_starts_with_a_setting.ensures c.args.function);
         wires = c.in_ok-wires.ensures.fitting;
         domains = ap (map (λ k. k.domain)) resting ∙ resting_domains c.args.function.domains;
-        clocks = subst (λ (clocks : List DomainClock). All (λ k. IsInRange k.deviation) clocks) (sym resting) (resting_range c.args.function.domains);
+        clocks = subst (λ (clocks : List DomainClock). All (λ k. IsDeviationInRange k.deviation) clocks) (sym resting) (resting_range c.args.function.domains);
         phases = subst (λ (clocks : List DomainClock). All (λ k. k.phase < 65536) clocks) (sym resting) (resting_phases c.args.function.domains);
-        ports = ap ports c.in_ok-wires.ensures.lanes ∙ ports_idle c.args.function.entities c.args.function.streams;
+        ports = ap ports c.in_ok-wires.ensures.device_streams ∙ ports_idle c.args.function.entities c.args.function.streams;
       },
       c.in_ok-graph.ensures,
       c.in_ok-derived.ensures,
@@ -28,5 +28,5 @@ invariant_of-result c =
 
 pub returns : goal.returns
 returns c =
-    fresh_stands c.args.function c.in_ok-store.store c.new-settings.result c.in_ok-wires.field-0.clocks.items c.in_ok-wires.field-0.wires c.in_ok-wires.field-0.lanes c.in_ok-store.ensures.starts
-    c.new-settings.ensures c.in_ok-wires.ensures.clocks c.in_ok-wires.ensures.silent c.in_ok-wires.ensures.lanes
+    fresh_stands c.args.function c.in_ok-store.store c.new-settings.result c.in_ok-wires.field-0.clocks.items c.in_ok-wires.field-0.wires c.in_ok-wires.field-0.device_streams c.in_ok-store.ensures.starts
+    c.new-settings.ensures c.in_ok-wires.ensures.clocks c.in_ok-wires.ensures.silent c.in_ok-wires.ensures.device_streams

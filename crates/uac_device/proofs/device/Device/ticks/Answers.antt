@@ -2,17 +2,17 @@ use Rattle.std.proofs.Common.{◌≡◌, ◌∙◌, ◌++◌, ◌<◌, ap, arith
 use Rattle.std.specs.List.{All}
 use Rattle.uac_store.specs.Rates.{rate_of}
 use Rattle.uac_device.specs.declared.clocks.DomainClock.{DomainClock}
-use Rattle.uac_device.specs.DeviceKept.{DeviceFields, IsInRange, DeviceStands}
+use Rattle.uac_device.specs.DeviceKept.{DeviceFields, IsDeviationInRange, DeviceStands}
 use Rattle.uac_device.specs.DeviceTurns.{clock_after_advance, first_ticks}
 use Rattle.uac_device.specs.contracts.device.Device.{the_view}
 use Rattle.uac_device.proofs.Fastest.{few_ticks, rated_nominal}
 use Rattle.uac_device.proofs.DeviceKeptLemmas.{advanced_domains, advanced_phases, advanced_range, advanced_stands, ticks_next}
 use Rattle.uac_flow.specs.FlowStreams.{after_ticks}
-use Rattle.uac_lanes.specs.InterfaceStreams.{changed_where}
+use Rattle.uac_device_streams.specs.InterfaceStreams.{changed_where}
 use Rattle.uac_device.specs.DeviceWorld.{is_on, next_ticks}
-use Rattle.uac_lanes.specs.Lanes.{LanesStand}
+use Rattle.uac_device_streams.specs.DeviceStreams.{DeviceStreamsStand}
 use Rattle.uac_device.proofs.Streaming.{ports_on}
-use Rattle.uac_lanes.proofs.Turning.{put_back}
+use Rattle.uac_device_streams.proofs.Turning.{put_back}
 use Rattle.uac_device.proofs.device.Device.ticks.Goals as goal
 
 pub invariant_of-self : goal.invariant_of-self
@@ -30,7 +30,7 @@ invariant_of-self c =
             ∙ advanced_domains c.args.domain c.values-values.result c.self.inside.clocks.items
             ∙ c.self.invariant.0.domains;
         clocks =
-            subst (λ (clocks : List DomainClock). All (λ k. IsInRange k.deviation) clocks) (sym turned)
+            subst (λ (clocks : List DomainClock). All (λ k. IsDeviationInRange k.deviation) clocks) (sym turned)
             (advanced_range c.args.domain c.values-values.result c.self.inside.clocks.items c.self.invariant.0.clocks);
         phases =
             subst (λ (clocks : List DomainClock). All (λ k. k.phase < 65536) clocks) (sym turned)
@@ -53,7 +53,7 @@ returns-clause-stands c w stands =
     advanced_stands (the_view c.self.inside) _ c.count.new.self c.args.domain c.values-values.result w rated
     (put_back c.self.inside.clocks.len c.advance-ticks.new.clocks c.self.inside.clocks.items (omega arith)
     ∙ c.advance-ticks.ensures.clocks ∙ ap (map (clock_after_advance c.args.domain c.values-values.result)) c.deref_mut.ensures.value)
-    (subst (λ (n : ℕ). LanesStand c.count.new.self (changed_where (is_on w c.args.domain) (λ interface. after_ticks n) w.outs) w.ins) ticks
+    (subst (λ (n : ℕ). DeviceStreamsStand c.count.new.self (changed_where (is_on w c.args.domain) (λ interface. after_ticks n) w.outs) w.ins) ticks
     (c.count.ensures.stands (is_on w c.args.domain) w.outs w.ins (ports_on (the_view c.self.inside) w c.args.domain numbered c.self.invariant.0 here) here.streams))
     here
 

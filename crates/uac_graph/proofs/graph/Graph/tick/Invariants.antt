@@ -1,6 +1,6 @@
 use Rattle.std.proofs.Common.{◌≡◌, ◌+◌, length, take}
 use Rattle.uac_graph.specs.GraphControls.{controls_in}
-use Rattle.uac_graph.specs.Needs.{needed}
+use Rattle.uac_graph.specs.Needs.{needed_units}
 use Rattle.uac_graph.specs.Orders.{holds}
 use Rattle.uac_graph.specs.Wiring.{AreRendered, AreWiresOf, samples_on}
 use Rattle.uac_graph.proofs.NeedsLemmas.{units_left}
@@ -10,5 +10,5 @@ abbrev pub invariant-loop-place : goal.invariant-loop-place
 invariant-loop-place g l = record {
   rendered : AreRendered l.self (controls_in l.store) (samples_on l.fn.wires) (holds l.self (take l.place-index l.place-items)) l.fn.wires l.wires;
   fitting : AreWiresOf l.self l.wires;
-  counted : l.steps + units_left l.self l.place-items l.place-index ≡ l.fn.steps + length (needed l.self l.domain);
+  counted : l.steps + units_left l.self l.place-items l.place-index ≡ l.fn.steps + length (needed_units l.self l.domain);
 }

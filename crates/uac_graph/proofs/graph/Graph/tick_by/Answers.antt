@@ -1,6 +1,6 @@
 use Rattle.std.proofs.Common.{◌∙◌, ◌+◌, [], ap, arith, subst, length, ℕ}
 use Rattle.uac_graph.specs.Fitness.{IsSignalGraph}
-use Rattle.uac_graph.specs.Needs.{depends_on, needed}
+use Rattle.uac_graph.specs.Needs.{depends_on, needed_units}
 use Rattle.uac_graph.specs.Wiring.{AreRendered, samples_on}
 use Rattle.uac_graph.proofs.InOrder.{all_rendered, none_rendered, order_for}
 use Rattle.uac_graph.proofs.NeedsLemmas.{all_units}
@@ -13,7 +13,7 @@ follow-requires-clause-order g c =
 pub follow-requires-clause-room : goal.follow-requires-clause-room
 follow-requires-clause-room g c =
     let found = c.in-Some.ensures.found c.args.self.now (order_for c.args.self.now c.self.inside.table c.self.inside.orders.items c.deref.result.now c.self.view_is c.deref.ensures.value c.self.invariant.1) in
-    omega (arith, c.requires.room, ap (λ (d : ℕ). length (needed c.args.self.now d)) found.0)
+    omega (arith, c.requires.room, ap (λ (d : ℕ). length (needed_units c.args.self.now d)) found.0)
 
 pub returns-in-Some-clause-rendered : goal.returns-in-Some-clause-rendered
 returns-in-Some-clause-rendered g c controls are =
@@ -24,7 +24,7 @@ returns-in-Some-clause-rendered g c controls are =
 pub returns-in-Some-clause-once : goal.returns-in-Some-clause-once
 returns-in-Some-clause-once g c =
     let found = c.in-Some.ensures.found c.args.self.now (order_for c.args.self.now c.self.inside.table c.self.inside.orders.items c.deref.result.now c.self.view_is c.deref.ensures.value c.self.invariant.1) in
-    c.follow.ensures.once ∙ ap (λ (d : ℕ). c.args.steps.now + length (needed c.args.self.now d)) found.0
+    c.follow.ensures.once ∙ ap (λ (d : ℕ). c.args.steps.now + length (needed_units c.args.self.now d)) found.0
 
 pub returns-in-None-clause-rendered : goal.returns-in-None-clause-rendered
 returns-in-None-clause-rendered g c controls are =

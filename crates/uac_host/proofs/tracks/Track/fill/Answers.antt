@@ -4,9 +4,9 @@ use Rattle.std.proofs.Math.Nat.{mul-le-mul_right, zero-mul}
 use Rattle.std.specs.List.{All}
 use Rattle.uac_pcm.specs.Packets.{bytes_of_frames}
 use Rattle.uac_pcm.proofs.PacketsLemmas.{one_written}
-use Rattle.uac_host.specs.Calls.{after_frames, next_frames}
+use Rattle.uac_host.specs.HostCalls.{track_after_frames, next_frames}
 use Rattle.uac_host.specs.HostKept.{kept_track}
-use Rattle.uac_host.proofs.CallsLemmas.{after_frames_more, after_frames_none, next_frames_more, next_frames_none}
+use Rattle.uac_host.proofs.HostCallsLemmas.{after_frames_more, after_frames_none, next_frames_more, next_frames_none}
 use Rattle.uac_host.proofs.HostKeptLemmas.{even_after}
 use Rattle.uac_host.proofs.tracks.Track.fill.Goals as goal
 
@@ -36,8 +36,8 @@ loop-number-preserved c =
     record {
       stands = λ t even kept.
           (let so_far = c.loop-number.invariant.stands t even kept in
-          let one = subst (λ (m : ℕ). (next_frames m 1 (after_frames n t) ≡ frame ∷ []) × (c.next.new.self ≡ kept_track (after_frames 1 (after_frames n t)))) as_many
-          (c.next.ensures.stands (after_frames n t) (subst (λ (m : ℕ). All (λ f. length f ≡ m) (after_frames n t).waiting) (sym as_many) (even_after format.channels n t even)) so_far.1) in
+          let one = subst (λ (m : ℕ). (next_frames m 1 (track_after_frames n t) ≡ frame ∷ []) × (c.next.new.self ≡ kept_track (track_after_frames 1 (track_after_frames n t)))) as_many
+          (c.next.ensures.stands (track_after_frames n t) (subst (λ (m : ℕ). All (λ f. length f ≡ m) (track_after_frames n t).waiting) (sym as_many) (even_after format.channels n t even)) so_far.1) in
           let grown : next_frames format.channels (n + 1) t ≡ next_frames format.channels n t ++ frame ∷ [] =
           next_frames_more format.channels n t ∙ ap (λ (fs : List (List ℤ)). next_frames format.channels n t ++ fs) one.0 in (
             one_written format.channels format.subslot format.bits (n * c.frame_bytes-size.result) n (next_frames format.channels n t)

@@ -9,54 +9,54 @@ use Rattle.uac_mixer.proofs.view.View.get.Goals as goal
 
 pub transfer_at-requires-clause-named : goal.transfer_at-requires-clause-named
 transfer_at-requires-clause-named g c =
-    names_it 161 c.control_interface-control.result c.setup_of-setup.result c.args.self.now.elements c.args.at c.element.result c.setup_of-setup.ensures
+    names_it 161 c.control_interface-control.result c.element_setup-setup.result c.args.self.now.elements c.args.at c.element.result c.element_setup-setup.ensures
     (record { interface = c.control_interface-control.type_inv; entity = c.element.ensures.entity; selector = c.element.ensures.selector; channel = c.element.ensures.channel })
     c.element.ensures.there
 
 pub unwrap-requires : goal.unwrap-requires
 unwrap-requires g c =
-    get_some c.control_interface-control.result c.setup_of-setup.result c.element.result c.args.at c.args.self.now c.transfer_at.new.self (g.L.Link.state c.args.link.now) (g.L.Link.state c.transfer_at.new.link)
-    c.setup_of-setup.ensures (c.control_interface-control.ensures ∙ ap (λ (f : FunctionFields). f.control_interface) c.function-2.ensures.function)
+    get_some c.control_interface-control.result c.element_setup-setup.result c.element.result c.args.at c.args.self.now c.transfer_at.new.self (g.L.Link.state c.args.link.now) (g.L.Link.state c.transfer_at.new.link)
+    c.element_setup-setup.ensures (c.control_interface-control.ensures ∙ ap (λ (f : FunctionFields). f.control_interface) c.function-2.ensures.function)
     (keyed c.function.result.now _ c.sound_functions_have_keys_and_rates.ensures.keys c.functions_are_sound.ensures c.function.ensures.function) c.function.ensures.stored c.requires.of_function c.element.ensures.there
     (record { interface = subst (λ (i : ℕ). i < 256) (c.control_interface-control.ensures ∙ ap (λ (f : FunctionFields). f.control_interface) c.function-2.ensures.function) c.control_interface-control.type_inv; entity = c.element.ensures.entity; selector = c.element.ensures.selector; channel = c.element.ensures.channel })
     _ c.element-in-Ok.result c.in-Ok.ensures.made c.element-in-Ok.ensures.there
 
 pub returns-in-Ok-clause-made : goal.returns-in-Ok-clause-made
 returns-in-Ok-clause-made g c =
-    (get_done c.control_interface-control.result c.setup_of-setup.result c.element.result c.args.at c.args.self.now c.transfer_at.new.self (g.L.Link.state c.args.link.now) (g.L.Link.state c.transfer_at.new.link)
-    c.setup_of-setup.ensures (c.control_interface-control.ensures ∙ ap (λ (f : FunctionFields). f.control_interface) c.function-2.ensures.function)
+    (get_done c.control_interface-control.result c.element_setup-setup.result c.element.result c.args.at c.args.self.now c.transfer_at.new.self (g.L.Link.state c.args.link.now) (g.L.Link.state c.transfer_at.new.link)
+    c.element_setup-setup.ensures (c.control_interface-control.ensures ∙ ap (λ (f : FunctionFields). f.control_interface) c.function-2.ensures.function)
     (keyed c.function.result.now _ c.sound_functions_have_keys_and_rates.ensures.keys c.functions_are_sound.ensures c.function.ensures.function) c.function.ensures.stored c.requires.of_function c.element.ensures.there
     (record { interface = subst (λ (i : ℕ). i < 256) (c.control_interface-control.ensures ∙ ap (λ (f : FunctionFields). f.control_interface) c.function-2.ensures.function) c.control_interface-control.type_inv; entity = c.element.ensures.entity; selector = c.element.ensures.selector; channel = c.element.ensures.channel })
     _ c.element-in-Ok.result c.unwrap.result _ c.in-Ok.ensures.made c.element-in-Ok.ensures.there c.unwrap.ensures (λ fits. to_z-of_z w32 c.unwrap.result fits)).made
 
 pub returns-in-Ok-clause-value : goal.returns-in-Ok-clause-value
 returns-in-Ok-clause-value g c =
-    (get_done c.control_interface-control.result c.setup_of-setup.result c.element.result c.args.at c.args.self.now c.transfer_at.new.self (g.L.Link.state c.args.link.now) (g.L.Link.state c.transfer_at.new.link)
-    c.setup_of-setup.ensures (c.control_interface-control.ensures ∙ ap (λ (f : FunctionFields). f.control_interface) c.function-2.ensures.function)
+    (get_done c.control_interface-control.result c.element_setup-setup.result c.element.result c.args.at c.args.self.now c.transfer_at.new.self (g.L.Link.state c.args.link.now) (g.L.Link.state c.transfer_at.new.link)
+    c.element_setup-setup.ensures (c.control_interface-control.ensures ∙ ap (λ (f : FunctionFields). f.control_interface) c.function-2.ensures.function)
     (keyed c.function.result.now _ c.sound_functions_have_keys_and_rates.ensures.keys c.functions_are_sound.ensures c.function.ensures.function) c.function.ensures.stored c.requires.of_function c.element.ensures.there
     (record { interface = subst (λ (i : ℕ). i < 256) (c.control_interface-control.ensures ∙ ap (λ (f : FunctionFields). f.control_interface) c.function-2.ensures.function) c.control_interface-control.type_inv; entity = c.element.ensures.entity; selector = c.element.ensures.selector; channel = c.element.ensures.channel })
     _ c.element-in-Ok.result c.unwrap.result _ c.in-Ok.ensures.made c.element-in-Ok.ensures.there c.unwrap.ensures (λ fits. to_z-of_z w32 c.unwrap.result fits)).value
 
 pub returns-in-Ok-clause-as_before : goal.returns-in-Ok-clause-as_before
 returns-in-Ok-clause-as_before g c =
-    (get_done c.control_interface-control.result c.setup_of-setup.result c.element.result c.args.at c.args.self.now c.transfer_at.new.self (g.L.Link.state c.args.link.now) (g.L.Link.state c.transfer_at.new.link)
-    c.setup_of-setup.ensures (c.control_interface-control.ensures ∙ ap (λ (f : FunctionFields). f.control_interface) c.function-2.ensures.function)
+    (get_done c.control_interface-control.result c.element_setup-setup.result c.element.result c.args.at c.args.self.now c.transfer_at.new.self (g.L.Link.state c.args.link.now) (g.L.Link.state c.transfer_at.new.link)
+    c.element_setup-setup.ensures (c.control_interface-control.ensures ∙ ap (λ (f : FunctionFields). f.control_interface) c.function-2.ensures.function)
     (keyed c.function.result.now _ c.sound_functions_have_keys_and_rates.ensures.keys c.functions_are_sound.ensures c.function.ensures.function) c.function.ensures.stored c.requires.of_function c.element.ensures.there
     (record { interface = subst (λ (i : ℕ). i < 256) (c.control_interface-control.ensures ∙ ap (λ (f : FunctionFields). f.control_interface) c.function-2.ensures.function) c.control_interface-control.type_inv; entity = c.element.ensures.entity; selector = c.element.ensures.selector; channel = c.element.ensures.channel })
     _ c.element-in-Ok.result c.unwrap.result c.unwrap.result c.in-Ok.ensures.made c.element-in-Ok.ensures.there c.unwrap.ensures (λ fits. refl)).as_before
 
 pub returns-in-Err-clause-unchanged : goal.returns-in-Err-clause-unchanged
 returns-in-Err-clause-unchanged g c =
-    (get_fails c.control_interface-control.result c.setup_of-setup.result c.element.result c.args.at c.args.self.now c.transfer_at.new.self (g.L.Link.state c.args.link.now) (g.L.Link.state c.transfer_at.new.link)
-    c.setup_of-setup.ensures (c.control_interface-control.ensures ∙ ap (λ (f : FunctionFields). f.control_interface) c.function-2.ensures.function)
+    (get_fails c.control_interface-control.result c.element_setup-setup.result c.element.result c.args.at c.args.self.now c.transfer_at.new.self (g.L.Link.state c.args.link.now) (g.L.Link.state c.transfer_at.new.link)
+    c.element_setup-setup.ensures (c.control_interface-control.ensures ∙ ap (λ (f : FunctionFields). f.control_interface) c.function-2.ensures.function)
     (keyed c.function.result.now _ c.sound_functions_have_keys_and_rates.ensures.keys c.functions_are_sound.ensures c.function.ensures.function) c.function.ensures.stored c.requires.of_function c.element.ensures.there
     (record { interface = subst (λ (i : ℕ). i < 256) (c.control_interface-control.ensures ∙ ap (λ (f : FunctionFields). f.control_interface) c.function-2.ensures.function) c.control_interface-control.type_inv; entity = c.element.ensures.entity; selector = c.element.ensures.selector; channel = c.element.ensures.channel })
     c.in-Err.ensures.made).0
 
 pub returns-in-Err-clause-as_before : goal.returns-in-Err-clause-as_before
 returns-in-Err-clause-as_before g c =
-    (get_fails c.control_interface-control.result c.setup_of-setup.result c.element.result c.args.at c.args.self.now c.transfer_at.new.self (g.L.Link.state c.args.link.now) (g.L.Link.state c.transfer_at.new.link)
-    c.setup_of-setup.ensures (c.control_interface-control.ensures ∙ ap (λ (f : FunctionFields). f.control_interface) c.function-2.ensures.function)
+    (get_fails c.control_interface-control.result c.element_setup-setup.result c.element.result c.args.at c.args.self.now c.transfer_at.new.self (g.L.Link.state c.args.link.now) (g.L.Link.state c.transfer_at.new.link)
+    c.element_setup-setup.ensures (c.control_interface-control.ensures ∙ ap (λ (f : FunctionFields). f.control_interface) c.function-2.ensures.function)
     (keyed c.function.result.now _ c.sound_functions_have_keys_and_rates.ensures.keys c.functions_are_sound.ensures c.function.ensures.function) c.function.ensures.stored c.requires.of_function c.element.ensures.there
     (record { interface = subst (λ (i : ℕ). i < 256) (c.control_interface-control.ensures ∙ ap (λ (f : FunctionFields). f.control_interface) c.function-2.ensures.function) c.control_interface-control.type_inv; entity = c.element.ensures.entity; selector = c.element.ensures.selector; channel = c.element.ensures.channel })
     c.in-Err.ensures.made).1

@@ -10,14 +10,14 @@ use Rattle.uac_mixer.proofs.view.View.set.Goals as goal
 
 pub transfer_at-requires-clause-named : goal.transfer_at-requires-clause-named
 transfer_at-requires-clause-named g c =
-    names_it 33 c.control_interface-control.result c.setup_of-setup.result c.args.self.now.elements c.args.at c.element-element.result c.setup_of-setup.ensures
+    names_it 33 c.control_interface-control.result c.element_setup-setup.result c.args.self.now.elements c.args.at c.element-element.result c.element_setup-setup.ensures
     (record { interface = c.control_interface-control.type_inv; entity = c.element-element.ensures.entity; selector = c.element-element.ensures.selector; channel = c.element-element.ensures.channel })
     c.element-element.ensures.there
 
 pub returns-in-Ok-clause-made : goal.returns-in-Ok-clause-made
 returns-in-Ok-clause-made g c =
-    (set_answer c.control_interface-control.result c.setup_of-setup.result c.element-element.result c.args.at c.args.value _ c.args.self.now c.transfer_at.new.self (g.L.Link.state c.args.link.now) (g.L.Link.state c.transfer_at.new.link)
-    c.setup_of-setup.ensures (c.control_interface-control.ensures ∙ ap (λ (f : FunctionFields). f.control_interface) c.function.ensures.function)
+    (set_answer c.control_interface-control.result c.element_setup-setup.result c.element-element.result c.args.at c.args.value _ c.args.self.now c.transfer_at.new.self (g.L.Link.state c.args.link.now) (g.L.Link.state c.transfer_at.new.link)
+    c.element_setup-setup.ensures (c.control_interface-control.ensures ∙ ap (λ (f : FunctionFields). f.control_interface) c.function.ensures.function)
     (c.as_slice.ensures.value ∙ c.value_bytes-bytes.ensures.bytes ∙ ap (λ (v : ℤ). value_bytes c.width.result v) (to_z-of_z w32 c.args.value c.ranges.value) ∙ ap (λ (w : ℕ). value_bytes w c.args.value) c.width.ensures.value)
     c.element-element.ensures.there
     (record { interface = subst (λ (i : ℕ). i < 256) (c.control_interface-control.ensures ∙ ap (λ (f : FunctionFields). f.control_interface) c.function.ensures.function) c.control_interface-control.type_inv; entity = c.element-element.ensures.entity; selector = c.element-element.ensures.selector; channel = c.element-element.ensures.channel })
@@ -26,8 +26,8 @@ returns-in-Ok-clause-made g c =
 
 pub returns-in-Ok-clause-done : goal.returns-in-Ok-clause-done
 returns-in-Ok-clause-done g c =
-    (set_answer c.control_interface-control.result c.setup_of-setup.result c.element-element.result c.args.at c.args.value _ c.args.self.now c.transfer_at.new.self (g.L.Link.state c.args.link.now) (g.L.Link.state c.transfer_at.new.link)
-    c.setup_of-setup.ensures (c.control_interface-control.ensures ∙ ap (λ (f : FunctionFields). f.control_interface) c.function.ensures.function)
+    (set_answer c.control_interface-control.result c.element_setup-setup.result c.element-element.result c.args.at c.args.value _ c.args.self.now c.transfer_at.new.self (g.L.Link.state c.args.link.now) (g.L.Link.state c.transfer_at.new.link)
+    c.element_setup-setup.ensures (c.control_interface-control.ensures ∙ ap (λ (f : FunctionFields). f.control_interface) c.function.ensures.function)
     (c.as_slice.ensures.value ∙ c.value_bytes-bytes.ensures.bytes ∙ ap (λ (v : ℤ). value_bytes c.width.result v) (to_z-of_z w32 c.args.value c.ranges.value) ∙ ap (λ (w : ℕ). value_bytes w c.args.value) c.width.ensures.value)
     c.element-element.ensures.there
     (record { interface = subst (λ (i : ℕ). i < 256) (c.control_interface-control.ensures ∙ ap (λ (f : FunctionFields). f.control_interface) c.function.ensures.function) c.control_interface-control.type_inv; entity = c.element-element.ensures.entity; selector = c.element-element.ensures.selector; channel = c.element-element.ensures.channel })
@@ -36,8 +36,8 @@ returns-in-Ok-clause-done g c =
 
 pub returns-in-Ok-clause-stalled : goal.returns-in-Ok-clause-stalled
 returns-in-Ok-clause-stalled g c =
-    (set_answer c.control_interface-control.result c.setup_of-setup.result c.element-element.result c.args.at c.args.value _ c.args.self.now c.transfer_at.new.self (g.L.Link.state c.args.link.now) (g.L.Link.state c.transfer_at.new.link)
-    c.setup_of-setup.ensures (c.control_interface-control.ensures ∙ ap (λ (f : FunctionFields). f.control_interface) c.function.ensures.function)
+    (set_answer c.control_interface-control.result c.element_setup-setup.result c.element-element.result c.args.at c.args.value _ c.args.self.now c.transfer_at.new.self (g.L.Link.state c.args.link.now) (g.L.Link.state c.transfer_at.new.link)
+    c.element_setup-setup.ensures (c.control_interface-control.ensures ∙ ap (λ (f : FunctionFields). f.control_interface) c.function.ensures.function)
     (c.as_slice.ensures.value ∙ c.value_bytes-bytes.ensures.bytes ∙ ap (λ (v : ℤ). value_bytes c.width.result v) (to_z-of_z w32 c.args.value c.ranges.value) ∙ ap (λ (w : ℕ). value_bytes w c.args.value) c.width.ensures.value)
     c.element-element.ensures.there
     (record { interface = subst (λ (i : ℕ). i < 256) (c.control_interface-control.ensures ∙ ap (λ (f : FunctionFields). f.control_interface) c.function.ensures.function) c.control_interface-control.type_inv; entity = c.element-element.ensures.entity; selector = c.element-element.ensures.selector; channel = c.element-element.ensures.channel })
@@ -46,8 +46,8 @@ returns-in-Ok-clause-stalled g c =
 
 pub returns-in-Ok-clause-unknown : goal.returns-in-Ok-clause-unknown
 returns-in-Ok-clause-unknown g c =
-    (set_answer c.control_interface-control.result c.setup_of-setup.result c.element-element.result c.args.at c.args.value _ c.args.self.now c.transfer_at.new.self (g.L.Link.state c.args.link.now) (g.L.Link.state c.transfer_at.new.link)
-    c.setup_of-setup.ensures (c.control_interface-control.ensures ∙ ap (λ (f : FunctionFields). f.control_interface) c.function.ensures.function)
+    (set_answer c.control_interface-control.result c.element_setup-setup.result c.element-element.result c.args.at c.args.value _ c.args.self.now c.transfer_at.new.self (g.L.Link.state c.args.link.now) (g.L.Link.state c.transfer_at.new.link)
+    c.element_setup-setup.ensures (c.control_interface-control.ensures ∙ ap (λ (f : FunctionFields). f.control_interface) c.function.ensures.function)
     (c.as_slice.ensures.value ∙ c.value_bytes-bytes.ensures.bytes ∙ ap (λ (v : ℤ). value_bytes c.width.result v) (to_z-of_z w32 c.args.value c.ranges.value) ∙ ap (λ (w : ℕ). value_bytes w c.args.value) c.width.ensures.value)
     c.element-element.ensures.there
     (record { interface = subst (λ (i : ℕ). i < 256) (c.control_interface-control.ensures ∙ ap (λ (f : FunctionFields). f.control_interface) c.function.ensures.function) c.control_interface-control.type_inv; entity = c.element-element.ensures.entity; selector = c.element-element.ensures.selector; channel = c.element-element.ensures.channel })
@@ -56,8 +56,8 @@ returns-in-Ok-clause-unknown g c =
 
 pub returns-in-Err-clause-unknown : goal.returns-in-Err-clause-unknown
 returns-in-Err-clause-unknown g c =
-    (set_all c.control_interface-control.result c.setup_of-setup.result c.element-element.result c.args.at c.args.value _ c.args.self.now c.transfer_at.new.self (g.L.Link.state c.args.link.now) (g.L.Link.state c.transfer_at.new.link)
-    c.setup_of-setup.ensures (c.control_interface-control.ensures ∙ ap (λ (f : FunctionFields). f.control_interface) c.function.ensures.function)
+    (set_all c.control_interface-control.result c.element_setup-setup.result c.element-element.result c.args.at c.args.value _ c.args.self.now c.transfer_at.new.self (g.L.Link.state c.args.link.now) (g.L.Link.state c.transfer_at.new.link)
+    c.element_setup-setup.ensures (c.control_interface-control.ensures ∙ ap (λ (f : FunctionFields). f.control_interface) c.function.ensures.function)
     (c.as_slice.ensures.value ∙ c.value_bytes-bytes.ensures.bytes ∙ ap (λ (v : ℤ). value_bytes c.width.result v) (to_z-of_z w32 c.args.value c.ranges.value) ∙ ap (λ (w : ℕ). value_bytes w c.args.value) c.width.ensures.value)
     c.element-element.ensures.there
     (record { interface = subst (λ (i : ℕ). i < 256) (c.control_interface-control.ensures ∙ ap (λ (f : FunctionFields). f.control_interface) c.function.ensures.function) c.control_interface-control.type_inv; entity = c.element-element.ensures.entity; selector = c.element-element.ensures.selector; channel = c.element-element.ensures.channel })

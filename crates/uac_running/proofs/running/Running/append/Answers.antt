@@ -1,5 +1,5 @@
 use Rattle.std.proofs.Common.{sym, subst, refl}
-use Rattle.uac_host.specs.Calls.{with_samples}
+use Rattle.uac_host.specs.HostCalls.{with_samples}
 use Rattle.uac_streaming.specs.StreamingKept as streaming
 use Rattle.uac_running.specs.RunningWorld.{streaming_of, with_samples_on}
 use Rattle.uac_running.specs.RunningKept.{RunningFields, RunningStands, RunningStandsBetween}

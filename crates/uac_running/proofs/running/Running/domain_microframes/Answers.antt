@@ -1,6 +1,6 @@
 use Rattle.std.proofs.Common.{◌≡◌, ◌∙◌, ap, subst, refl, arith, ℕ, List, ◌+◌, ◌<◌, ◌≤◌, length, drop, get_or}
 use Rattle.std.specs.Io.KnownBytes.{Appends}
-use Rattle.uac_units.specs.Panel.{readings}
+use Rattle.uac_units.specs.MeterReadings.{readings}
 use Rattle.uac_topology.specs.Function.{FunctionFields}
 use Rattle.uac_edges.specs.Writing.{AppendsFront}
 use Rattle.uac_transcript.specs.Printing.{text_of}

@@ -1,5 +1,5 @@
 use Rattle.std.proofs.Common.{map, subst, sym}
-use Rattle.uac_script.specs.Line.{said_mark}
+use Rattle.uac_script.specs.Line.{phrase_mark}
 use Rattle.uac_streaming.specs.StreamingWorld.{all_reported, all_settled}
 use Rattle.uac_running.specs.Events.{ends_and_reports, of_streams}
 use Rattle.uac_running.specs.RunningKept.{RunningFields, RunningStands}
@@ -11,13 +11,13 @@ use Rattle.uac_running.proofs.running.Running.ends_and_reports.Goals as goal
 pub returns-then-not-runs-clause-tells : goal.returns-then-not-runs-clause-tells
 returns-then-not-runs-clause-tells g c meters r stands fits =
     let own = subst (λ (p : RunningFields). RunningStands p meters r) (sym c.self.view_is) stands in
-    quiet_ends_told (map said_mark c.args.marks.now) c.args.self.now meters r (g.K.Sink.written c.args.sink.now)
+    quiet_ends_told (map phrase_mark c.args.marks.now) c.args.self.now meters r (g.K.Sink.written c.args.sink.now)
     (c.runs.ensures.none r.device own.streaming.device c.if-not-runs.true) stands
 
 pub returns-in_err-settle-clause-tells : goal.returns-in_err-settle-clause-tells
 unfolding ends_and_reports
 returns-in_err-settle-clause-tells g c meters r stands fits =
-    let marks = map said_mark c.args.marks.now in
+    let marks = map phrase_mark c.args.marks.now in
     Tells-handed_on _ _ (g.K.Sink.written c.args.sink.now) (g.K.Sink.written c.settle.new.sink) c.from_residual.result _ c.from_residual.ensures.1 (
     front_then (of_streams (all_settled r.detail)) (of_streams (all_reported r.detail marks)) r
     (g.K.Sink.written c.args.sink.now) (g.K.Sink.written c.settle.new.sink) (c.in_err-settle.ensures.tells meters r stands fits).0
@@ -26,7 +26,7 @@ returns-in_err-settle-clause-tells g c meters r stands fits =
 pub returns-clause-tells : goal.returns-clause-tells
 unfolding ends_and_reports
 returns-clause-tells g c meters r stands fits =
-    let marks = map said_mark c.args.marks.now in
+    let marks = map phrase_mark c.args.marks.now in
     let first = c.in_ok-settle.ensures.tells meters r stands fits in
     tells_then (of_streams (all_settled r.detail)) (of_streams (all_reported r.detail marks)) r c.reports.new.self meters
     (g.K.Sink.written c.args.sink.now) (g.K.Sink.written c.settle.new.sink) (g.K.Sink.written c.reports.new.sink) c.reports.result first.0

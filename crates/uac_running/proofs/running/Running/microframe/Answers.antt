@@ -1,7 +1,7 @@
 use Rattle.std.proofs.Common.{subst, map, List}
 use Rattle.std.specs.Io.KnownBytes.{Appends}
-use Rattle.uac_script.specs.Line.{said_mark}
-use Rattle.uac_units.specs.Panel.{readings}
+use Rattle.uac_script.specs.Line.{phrase_mark}
+use Rattle.uac_units.specs.MeterReadings.{readings}
 use Rattle.uac_edges.specs.Writing.{AppendsFront}
 use Rattle.uac_transcript.specs.Transcript.{Said}
 use Rattle.uac_transcript.specs.Printing.{text_of}
@@ -18,7 +18,7 @@ returns-in_err-write_number-clause-tells g c r stands =
     let later = passed shown r c.args.self.now c.pass.new.self stands.now c.pass.ensures in
     let said = number_line r c.pass.new.self shown later in
     Tells-handed_on _ _ (g.K.Sink.written c.args.sink.now) (g.K.Sink.written c.write_number.new.sink) c.from_residual.result _ c.from_residual.ensures.1 (
-    microframe_front (map said_mark c.args.marks.now) r (g.K.Sink.written c.args.sink.now) (g.K.Sink.written c.write_number.new.sink)
+    microframe_front (map phrase_mark c.args.marks.now) r (g.K.Sink.written c.args.sink.now) (g.K.Sink.written c.write_number.new.sink)
     (subst (λ (lines : List Said). AppendsFront (g.K.Sink.written c.args.sink.now) (g.K.Sink.written c.write_number.new.sink) (text_of lines)) said c.in_err-write_number.ensures.printed)
     )
 
@@ -28,7 +28,7 @@ returns-in_err-packets_and_ticks-clause-tells g c r stands =
     let later = passed shown r c.args.self.now c.pass.new.self stands.now c.pass.ensures in
     let said = number_line r c.pass.new.self shown later in
     Tells-handed_on _ _ (g.K.Sink.written c.args.sink.now) (g.K.Sink.written c.packets_and_ticks.new.sink) c.from_residual-in_err-packets_and_ticks.result _ c.from_residual-in_err-packets_and_ticks.ensures.1 (
-    microframe_next_front (map said_mark c.args.marks.now) r (g.K.Sink.written c.args.sink.now) (g.K.Sink.written c.write_number.new.sink) (g.K.Sink.written c.packets_and_ticks.new.sink)
+    microframe_next_front (map phrase_mark c.args.marks.now) r (g.K.Sink.written c.args.sink.now) (g.K.Sink.written c.write_number.new.sink) (g.K.Sink.written c.packets_and_ticks.new.sink)
     (subst (λ (lines : List Said). Appends (g.K.Sink.written c.args.sink.now) (g.K.Sink.written c.write_number.new.sink) (text_of lines)) said c.in_ok-write_number.ensures.printed)
     (c.in_err-packets_and_ticks.ensures.tells (numbered r) later).0
     )
@@ -37,7 +37,7 @@ pub returns-clause-tells : goal.returns-clause-tells
 returns-clause-tells g c r stands =
     let shown = readings (λ v x. (goal.Meter-dyn g (v, x)).reading_of x) c.args.meters.now in
     let showing = readings (λ v x. (goal.Meter-dyn g (v, x)).reading_of x) c.packets_and_ticks.new.meters in
-    let marks = map said_mark c.args.marks.now in
+    let marks = map phrase_mark c.args.marks.now in
     let later = passed shown r c.args.self.now c.pass.new.self stands.now c.pass.ensures in
     let said = number_line r c.pass.new.self shown later in
     let number = subst (λ (lines : List Said). Appends (g.K.Sink.written c.args.sink.now) (g.K.Sink.written c.write_number.new.sink) (text_of lines)) said c.in_ok-write_number.ensures.printed in

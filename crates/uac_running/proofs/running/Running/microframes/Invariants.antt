@@ -1,6 +1,6 @@
 use Rattle.std.proofs.Common.{◌≡◌, ◌-◌, map}
-use Rattle.uac_script.specs.Line.{said_mark}
-use Rattle.uac_units.specs.Panel.{readings}
+use Rattle.uac_script.specs.Line.{phrase_mark}
+use Rattle.uac_units.specs.MeterReadings.{readings}
 use Rattle.uac_running.specs.RunningWorld.{RunningWorld}
 use Rattle.uac_running.specs.Events.{microframes}
 use Rattle.uac_running.specs.RunningKept.{RunningStandsBetween}
@@ -10,7 +10,7 @@ use Rattle.uac_running.proofs.running.Running.microframes.Given as goal
 abbrev pub invariant-loop-passed : goal.invariant-loop-passed
 invariant-loop-passed g l = record {
   told : (r : RunningWorld) → RunningStandsBetween l.initial.self (readings (λ v x. (goal.Meter-dyn g (v, x)).reading_of x) l.initial.meters) r
-      → SoFar RunningStandsBetween (microframes (map said_mark l.marks) l.count r) (microframes (map said_mark l.marks) (l.count - l._passed)) l.self
+      → SoFar RunningStandsBetween (microframes (map phrase_mark l.marks) l.count r) (microframes (map phrase_mark l.marks) (l.count - l._passed)) l.self
       (readings (λ v x. (goal.Meter-dyn g (v, x)).reading_of x) l.meters) (g.K.Sink.written l.fn.sink) (g.K.Sink.written l.sink);
   faultless : g.K.Sink.faults l.sink ≡ g.K.Sink.faults l.fn.sink;
   function : l.self.device.function ≡ l.initial.self.device.function;

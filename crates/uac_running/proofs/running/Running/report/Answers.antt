@@ -1,5 +1,5 @@
 use Rattle.std.proofs.Common.{◌∙◌, sym, subst}
-use Rattle.uac_units.specs.Panel.{readings}
+use Rattle.uac_units.specs.MeterReadings.{readings}
 use Rattle.uac_running.specs.RunningWorld.{streaming_of}
 use Rattle.uac_running.specs.RunningKept.{RunningFields, RunningStands}
 use Rattle.uac_running.proofs.Reporting.{head_front, report_whole}

@@ -1,5 +1,5 @@
 use Rattle.std.proofs.Common.{sym, subst, refl, ℕ, map}
-use Rattle.uac_script.specs.Line.{said_mark}
+use Rattle.uac_script.specs.Line.{phrase_mark}
 use Rattle.uac_streaming.specs.StreamingKept as streaming
 use Rattle.uac_streaming.specs.StreamingWorld.{all_reported}
 use Rattle.uac_running.specs.RunningWorld.{streaming_of}
@@ -12,7 +12,7 @@ use Rattle.uac_running.proofs.running.Running.reports.Goals as goal
 pub returns-clause-tells : goal.returns-clause-tells
 returns-clause-tells g c meters r stands =
     let own = subst (λ (p : RunningFields). RunningStands p meters r) (sym c.self.view_is) stands in
-    streams_told meters r (the_view c.self.inside) _ own (all_reported r.detail (map said_mark c.args.marks.now)) (g.K.Sink.written c.args.sink.now) (g.K.Sink.written c.reports.new.sink) c.reports.result
-    (subst (λ (n : ℕ). streaming.StreamingTells (all_reported n (map said_mark c.args.marks.now) (streaming_of r)) c.reports.new.self c.self.inside.device (g.K.Sink.written c.args.sink.now) (g.K.Sink.written c.reports.new.sink) c.reports.result)
+    streams_told meters r (the_view c.self.inside) _ own (all_reported r.detail (map phrase_mark c.args.marks.now)) (g.K.Sink.written c.args.sink.now) (g.K.Sink.written c.reports.new.sink) c.reports.result
+    (subst (λ (n : ℕ). streaming.StreamingTells (all_reported n (map phrase_mark c.args.marks.now) (streaming_of r)) c.reports.new.self c.self.inside.device (g.K.Sink.written c.args.sink.now) (g.K.Sink.written c.reports.new.sink) c.reports.result)
     own.detail (c.reports.ensures.tells (streaming_of r) own.streaming))
-    (all_reported-keep r.detail (map said_mark c.args.marks.now) (streaming_of r)) refl refl refl refl refl (record { view = refl; configuration = refl; breaks = refl })
+    (all_reported-keep r.detail (map phrase_mark c.args.marks.now) (streaming_of r)) refl refl refl refl refl (record { view = refl; configuration = refl; breaks = refl })

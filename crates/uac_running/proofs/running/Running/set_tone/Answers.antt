@@ -1,7 +1,7 @@
 use Rattle.std.proofs.Common.{sym, subst, refl}
-use Rattle.uac_running.specs.RunningWorld.{jack_with_tone, with_tone}
+use Rattle.uac_running.specs.RunningWorld.{jack_with_tone, with_jack_tone}
 use Rattle.uac_running.specs.RunningKept.{RunningFields, RunningStands}
-use Rattle.uac_lanes.proofs.Turning.{turned_back}
+use Rattle.uac_device_streams.proofs.Turning.{turned_back}
 use Rattle.uac_running.proofs.RunningKeptLemmas.{domains_kept}
 use Rattle.uac_running.proofs.JackSteps.{jacks_toned}
 use Rattle.uac_running.proofs.Steps.{toned_on}
@@ -18,7 +18,7 @@ invariant_of-self c =
     )
 
 pub returns-clause-stands : goal.returns-clause-stands
-unfolding with_tone
+unfolding with_jack_tone
 returns-clause-stands c meters r stands =
     let jacks = turned_back (jack_with_tone c.args.terminal c.args.tone) c.self.inside.jacks.len c.self.inside.jacks.items c.deref_mut.result.now c.set_tone.new.jacks
     c.set_tone.ensures c.deref_mut.ensures.value c.deref_mut.ensures.len in

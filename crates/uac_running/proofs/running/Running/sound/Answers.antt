@@ -1,10 +1,10 @@
 use Rattle.std.proofs.Common.{◌≡◌, ◌∙◌, ◌+◌, ap, sym, subst, refl, true, zero-add}
 use Rattle.uac_device.specs.DeviceKept as device
 use Rattle.uac_device.specs.DeviceWorld.{renders_of}
-use Rattle.uac_units.specs.Panel.{readings}
+use Rattle.uac_units.specs.MeterReadings.{readings}
 use Rattle.uac_running.specs.Events.{after_one, jacks_after_frame}
 use Rattle.uac_running.specs.RunningKept.{RunningFields, RunningStands}
-use Rattle.uac_lanes.proofs.Turning.{turned_back}
+use Rattle.uac_device_streams.proofs.Turning.{turned_back}
 use Rattle.uac_running.proofs.RunningKeptLemmas.{domains_kept}
 use Rattle.uac_running.proofs.JackSteps.{jacks_gone_on}
 use Rattle.uac_running.proofs.Resting.{rests_after}
@@ -30,7 +30,7 @@ returns-clause-stands g c r stands rests stills =
     let jacks = turned_back (after_one c.args.domain) c.self.inside.jacks.len c.self.inside.jacks.items c.deref_mut.result.now c.next_frames.new.jacks
     c.next_frames.ensures.jacks c.deref_mut.ensures.value c.deref_mut.ensures.len in
     let own = subst (λ (p : RunningFields). RunningStands p shown r) (sym c.self.view_is) stands in
-    let still = λ (is : c.args.rest.lanes ≡ true). still_gave c.args.domain shown r (the_view c.self.inside) own c.self.invariant.0 (stills is) in
+    let still = λ (is : c.args.rest.device_streams ≡ true). still_gave c.args.domain shown r (the_view c.self.inside) own c.self.invariant.0 (stills is) in
     let w = gave c.args.domain r in
     let rendered : device.DeviceStands c.next_frames.new.device w → c.count.result ≡ renders_of c.args.domain w =
     λ kept. c.count.ensures ∙ c.tick_where-found.ensures.once w kept ∙ ap (λ n. n + renders_of c.args.domain w) c.new-steps.ensures ∙ zero-add (renders_of c.args.domain w) in
@@ -44,7 +44,7 @@ pub returns-clause-found : goal.returns-clause-found
 returns-clause-found g c r stands rests stills =
     let shown = readings (λ v x. (goal.Meter-dyn g (v, x)).reading_of x) c.args.meters.now in
     let own = subst (λ (p : RunningFields). RunningStands p shown r) (sym c.self.view_is) stands in
-    let still = λ (is : c.args.rest.lanes ≡ true). still_gave c.args.domain shown r (the_view c.self.inside) own c.self.invariant.0 (stills is) in
+    let still = λ (is : c.args.rest.device_streams ≡ true). still_gave c.args.domain shown r (the_view c.self.inside) own c.self.invariant.0 (stills is) in
     sounded_found c.args.rest.jacks c.args.domain shown r (the_view c.self.inside) c.deref_mut.result.now c.next_frames.new.device c.tick_where-found.result own rests c.deref_mut.ensures.value
     c.next_frames.ensures.stands (λ kept. c.tick_where-found.ensures.met (gave c.args.domain r) kept still)
 

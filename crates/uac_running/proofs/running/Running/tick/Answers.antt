@@ -1,4 +1,4 @@
-use Rattle.uac_units.specs.Panel.{readings}
+use Rattle.uac_units.specs.MeterReadings.{readings}
 use Rattle.uac_running.proofs.Steps.{tick_told}
 use Rattle.uac_running.proofs.running.Running.tick.Goals as goal
 

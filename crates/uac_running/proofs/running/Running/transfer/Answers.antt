@@ -2,10 +2,10 @@ use Rattle.std.proofs.Common.{◌≡◌, ◌∙◌, ◌&&◌, ap, sym, subst, re
 use Rattle.std.specs.Option.{option_map, option_map_or}
 use Rattle.uac_topology.specs.Function.{FunctionFields}
 use Rattle.uac_store.specs.declared.keys.Key.{Key}
-use Rattle.uac_request.specs.Requests.{AnswerFields, sets_interface}
+use Rattle.uac_request.specs.Requests.{AnswerFields, sets_interface, is_done_answer}
 use Rattle.uac_request.specs.Requests as requests
 use Rattle.uac_device.specs.DeviceKept as device
-use Rattle.uac_device.specs.DeviceWorld.{stream_in_setting, tells_done}
+use Rattle.uac_device.specs.DeviceWorld.{stream_in_setting}
 use Rattle.uac_running.specs.RunningKept.{RunningFields, RunningStands}
 use Rattle.uac_running.specs.RunningTransfers.{holds_setting}
 use Rattle.uac_running.proofs.RunningTransfersLemmas.{begun_is, came_back, followed_stand, rested_stand, setting_held, transfer_stands}
@@ -37,7 +37,7 @@ returns-then-holds-clause-stands c meters r stands =
     let held : holds_setting c.args.setup.now c.args.sent.now r ≡ true =
     sym (setting_held meters r (the_view c.self.inside) after c.args.setup.now c.args.sent.now _ _ _ own c.new-link.ensures.device fault
     c.transfer-came.ensures.made (ap (option_map requests.answer_fields) c.new-link.ensures.last))
-    ∙ sym (ap (λ (o : Option AnswerFields). sets_interface c.args.setup.now && option_map_or tells_done o false) c.last.ensures)
+    ∙ sym (ap (λ (o : Option AnswerFields). sets_interface c.args.setup.now && option_map_or is_done_answer o false) c.last.ensures)
     ∙ sym c.holds_setting-holds.ensures
     ∙ c.if-holds.true in
     transfer_stands meters r (the_view c.self.inside) after c.args.setup.now c.args.sent.now _ _ _ own c.new-link.ensures.device fault c.transfer-came.ensures.made refl
@@ -57,7 +57,7 @@ returns-else-holds-clause-stands c meters r stands =
     let rests : holds_setting c.args.setup.now c.args.sent.now r ≡ false =
     sym (setting_held meters r (the_view c.self.inside) after c.args.setup.now c.args.sent.now _ _ _ own c.new-link.ensures.device fault
     c.transfer-came.ensures.made (ap (option_map requests.answer_fields) c.new-link.ensures.last))
-    ∙ sym (ap (λ (o : Option AnswerFields). sets_interface c.args.setup.now && option_map_or tells_done o false) c.last.ensures)
+    ∙ sym (ap (λ (o : Option AnswerFields). sets_interface c.args.setup.now && option_map_or is_done_answer o false) c.last.ensures)
     ∙ sym c.holds_setting-holds.ensures
     ∙ c.if-holds.false in
     transfer_stands meters r (the_view c.self.inside) after c.args.setup.now c.args.sent.now _ _ _ own c.new-link.ensures.device fault c.transfer-came.ensures.made refl

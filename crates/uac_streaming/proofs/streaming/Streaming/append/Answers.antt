@@ -1,5 +1,5 @@
 use Rattle.std.proofs.Common.{refl, sym, subst}
-use Rattle.uac_host.specs.Calls.{with_samples}
+use Rattle.uac_host.specs.HostCalls.{with_samples}
 use Rattle.uac_streaming.specs.StreamingKept.{StreamingFields, StreamingStands}
 use Rattle.uac_streaming.specs.contracts.streaming.Streaming.{the_view}
 use Rattle.uac_streaming.proofs.Standing.{hosted, where_ok}

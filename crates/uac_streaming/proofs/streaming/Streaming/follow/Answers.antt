@@ -1,7 +1,7 @@
 use Rattle.std.proofs.Common.{ℕ, sym, subst, IfSome}
 use Rattle.std.specs.Option.{option_map}
 use Rattle.uac_alt.specs.AltStreams.{stream_fields}
-use Rattle.uac_host.specs.Calls.{IsStreamOf}
+use Rattle.uac_host.specs.HostCalls.{IsStreamOf}
 use Rattle.uac_streaming.specs.StreamingWorld.{after_following}
 use Rattle.uac_streaming.specs.StreamingKept.{StreamingStands}
 use Rattle.uac_streaming.proofs.Followed.{followed_nowhere, number_is}

@@ -1,5 +1,5 @@
 use Rattle.std.proofs.Common.{◌≡◌, map}
-use Rattle.uac_script.specs.Line.{said_mark}
+use Rattle.uac_script.specs.Line.{phrase_mark}
 use Rattle.uac_streaming.specs.StreamingWorld.{StreamingWorld, inward_turn}
 use Rattle.uac_streaming.specs.StreamingKept.{StreamingStands}
 use Rattle.uac_streaming.proofs.TellingLemmas.{InTurn}
@@ -8,7 +8,7 @@ use Rattle.uac_streaming.proofs.streaming.Streaming.in_packets.Given as goal
 abbrev pub invariant-loop-at : goal.invariant-loop-at
 invariant-loop-at g l = record {
   told : (w : StreamingWorld) → StreamingStands l.initial.self l.initial.device w
-      → InTurn (inward_turn l.detail (map said_mark l.marks)) l.initial.self.ins l.at w (StreamingStands l.self l.device) (g.K.Sink.written l.fn.sink) (g.K.Sink.written l.sink);
+      → InTurn (inward_turn l.detail (map phrase_mark l.marks)) l.initial.self.ins l.at w (StreamingStands l.self l.device) (g.K.Sink.written l.fn.sink) (g.K.Sink.written l.sink);
   faultless : g.K.Sink.faults l.sink ≡ g.K.Sink.faults l.fn.sink;
   function : l.device.function ≡ l.initial.device.function;
   order : l.self.ins ≡ l.initial.self.ins;

@@ -1,7 +1,7 @@
 use Rattle.std.proofs.Common.{◌∙◌, ap, subst, refl, arith, map, ◌<◌, ◌≤◌, length}
 use Rattle.std.specs.Io.KnownBytes.{Appends}
 use Rattle.uac_edges.specs.Writing.{AppendsFront}
-use Rattle.uac_script.specs.Line.{said_mark}
+use Rattle.uac_script.specs.Line.{phrase_mark}
 use Rattle.uac_transcript.specs.Printing.{text_of}
 use Rattle.uac_streaming.specs.Telling.{Telling, in_turn}
 use Rattle.uac_streaming.specs.StreamingWorld.{StreamingWorld, outward_turn}
@@ -14,7 +14,7 @@ use Rattle.uac_streaming.proofs.streaming.Streaming.out_packets.Goals as goal
 pub loop-at-init : goal.loop-at-init
 loop-at-init g c = record {
   told = λ w stands.
-      let event = outward_turn c.args.detail (map said_mark c.args.marks.now) in
+      let event = outward_turn c.args.detail (map phrase_mark c.args.marks.now) in
       begun (in_turn event c.args.self.now.outs w) (in_turn event c.args.self.now.outs) (StreamingStands c.args.self.now c.args.device.now) (g.K.Sink.written c.args.sink.now) w stands refl;
   faultless = refl;
   function = refl;
@@ -23,7 +23,7 @@ loop-at-init g c = record {
 
 pub returns-in_err-out_packet-clause-tells : goal.returns-in_err-out_packet-clause-tells
 returns-in_err-out_packet-clause-tells g c = λ w stands.
-    let event = outward_turn c.args.detail (map said_mark c.args.marks.now) in
+    let event = outward_turn c.args.detail (map phrase_mark c.args.marks.now) in
     let order = c.args.self.now.outs in
     let many = ap (λ (p : StreamingFields). length p.outs) c.self.view_is in
     let below : c.loop-at.at < length c.args.self.now.outs = omega (arith, many, c.len-at-end.ensures, c.self.inside.outs.ok.0, c.loop-at-test.true) in
@@ -34,13 +34,13 @@ returns-in_err-out_packet-clause-tells g c = λ w stands.
     below here (c.loop-at.invariant.told w stands) (λ v s. (c.in_err-out_packet.ensures.tells v s).0) in
     Tells-handed_on _ _ (g.K.Sink.written c.args.sink.now) (g.K.Sink.written c.out_packet.new.sink) c.from_residual.result _ c.from_residual.ensures.1 (
     subst (λ (told : Telling StreamingWorld). AppendsFront (g.K.Sink.written c.args.sink.now) (g.K.Sink.written c.out_packet.new.sink) (text_of told.lines))
-    (out_packets_are c.args.detail (map said_mark c.args.marks.now) w order stands.outs) all
+    (out_packets_are c.args.detail (map phrase_mark c.args.marks.now) w order stands.outs) all
     )
 
 pub loop-at-preserved : goal.loop-at-preserved
 loop-at-preserved g c = record {
   told = λ w stands.
-      let event = outward_turn c.args.detail (map said_mark c.args.marks.now) in
+      let event = outward_turn c.args.detail (map phrase_mark c.args.marks.now) in
       let order = c.args.self.now.outs in
       let many = ap (λ (p : StreamingFields). length p.outs) c.self.view_is in
       let below : c.loop-at.at < length c.args.self.now.outs = omega (arith, many, c.len-at-end.ensures, c.self.inside.outs.ok.0, c.loop-at-test.true) in
@@ -56,7 +56,7 @@ loop-at-preserved g c = record {
 
 pub returns-clause-tells : goal.returns-clause-tells
 returns-clause-tells g c = λ w stands.
-    let event = outward_turn c.args.detail (map said_mark c.args.marks.now) in
+    let event = outward_turn c.args.detail (map phrase_mark c.args.marks.now) in
     let order = c.args.self.now.outs in
     let many = ap (λ (p : StreamingFields). length p.outs) c.self.view_is in
     let past : length c.args.self.now.outs ≤ c.loop-at.at = omega (arith, many, c.len-at-end.ensures, c.self.inside.outs.ok.0, c.loop-at-test.false) in
@@ -64,4 +64,4 @@ returns-clause-tells g c = λ w stands.
     (c.loop-at.invariant.told w stands) in
     subst (λ (told : Telling StreamingWorld). Appends (g.K.Sink.written c.args.sink.now) (g.K.Sink.written c.loop-at.sink) (text_of told.lines)
     × StreamingStands c.loop-at.self c.loop-at.device told.world)
-    (out_packets_are c.args.detail (map said_mark c.args.marks.now) w order stands.outs) all
+    (out_packets_are c.args.detail (map phrase_mark c.args.marks.now) w order stands.outs) all

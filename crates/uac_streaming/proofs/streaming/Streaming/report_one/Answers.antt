@@ -1,18 +1,18 @@
 use Rattle.std.proofs.Common.{◌∙◌, sym, map}
-use Rattle.uac_script.specs.Line.{said_mark}
+use Rattle.uac_script.specs.Line.{phrase_mark}
 use Rattle.uac_streaming.specs.StreamingWorld.{report_turn}
 use Rattle.uac_streaming.proofs.Turned.{report_rests, report_told, rests}
 use Rattle.uac_streaming.proofs.streaming.Streaming.report_one.Goals as goal
 
 pub returns-in_default-clause-tells : goal.returns-in_default-clause-tells
 returns-in_default-clause-tells g c = λ w stands.
-    let marks = map said_mark c.args.marks.now in
+    let marks = map phrase_mark c.args.marks.now in
     rests (report_turn c.args.detail marks c.args.interface w) c.args.self.now c.args.device.now (g.K.Sink.written c.args.sink.now) w
     (report_rests c.args.detail c.args.interface marks w c.feedback.result (c.feedback.ensures w.device stands.device) c.in_default.is) stands
 
 pub returns-clause-tells : goal.returns-clause-tells
 returns-clause-tells g c = λ w stands.
-    report_told c.args.detail c.args.interface (map said_mark c.args.marks.now) w c.feedback.result (c.feedback.ensures w.device stands.device) c.report.new.self c.args.device.now
+    report_told c.args.detail c.args.interface (map phrase_mark c.args.marks.now) w c.feedback.result (c.feedback.ensures w.device stands.device) c.report.new.self c.args.device.now
     (g.K.Sink.written c.args.sink.now) (g.K.Sink.written c.write_report.new.sink) c.write_report.result c.in-Some.value c.loses_report-lost.result
     c.in-Some.is c.loses_report-lost.ensures (c.report.ensures.stands c.args.device.now w stands (sym (c.function.ensures ∙ stands.device.function)))
     c.write_report.ensures.printed

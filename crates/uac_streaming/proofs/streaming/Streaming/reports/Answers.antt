@@ -1,7 +1,7 @@
 use Rattle.std.proofs.Common.{◌∙◌, ap, subst, refl, arith, map, ◌<◌, ◌≤◌, length}
 use Rattle.std.specs.Io.KnownBytes.{Appends}
 use Rattle.uac_edges.specs.Writing.{AppendsFront}
-use Rattle.uac_script.specs.Line.{said_mark}
+use Rattle.uac_script.specs.Line.{phrase_mark}
 use Rattle.uac_transcript.specs.Printing.{text_of}
 use Rattle.uac_streaming.specs.Telling.{Telling, in_turn}
 use Rattle.uac_streaming.specs.StreamingWorld.{StreamingWorld, report_turn}
@@ -14,7 +14,7 @@ use Rattle.uac_streaming.proofs.streaming.Streaming.reports.Goals as goal
 pub loop-at-init : goal.loop-at-init
 loop-at-init g c = record {
   told = λ w stands.
-      let event = report_turn c.args.detail (map said_mark c.args.marks.now) in
+      let event = report_turn c.args.detail (map phrase_mark c.args.marks.now) in
       begun (in_turn event c.args.self.now.order w) (in_turn event c.args.self.now.order) (StreamingStands c.args.self.now c.args.device.now) (g.K.Sink.written c.args.sink.now) w stands refl;
   faultless = refl;
   order = refl;
@@ -22,7 +22,7 @@ loop-at-init g c = record {
 
 pub returns-in_err-report_one-clause-tells : goal.returns-in_err-report_one-clause-tells
 returns-in_err-report_one-clause-tells g c = λ w stands.
-    let event = report_turn c.args.detail (map said_mark c.args.marks.now) in
+    let event = report_turn c.args.detail (map phrase_mark c.args.marks.now) in
     let order = c.args.self.now.order in
     let many = ap (λ (p : StreamingFields). length p.order) c.self.view_is in
     let below : c.loop-at.at < length c.args.self.now.order = omega (arith, many, c.len-at-end.ensures, c.self.inside.order.ok.0, c.loop-at-test.true) in
@@ -33,13 +33,13 @@ returns-in_err-report_one-clause-tells g c = λ w stands.
     below here (c.loop-at.invariant.told w stands) (λ v s. (c.in_err-report_one.ensures.tells v s).0) in
     Tells-handed_on _ _ (g.K.Sink.written c.args.sink.now) (g.K.Sink.written c.report_one.new.sink) c.from_residual.result _ c.from_residual.ensures.1 (
     subst (λ (told : Telling StreamingWorld). AppendsFront (g.K.Sink.written c.args.sink.now) (g.K.Sink.written c.report_one.new.sink) (text_of told.lines))
-    (all_reported_are c.args.detail (map said_mark c.args.marks.now) w order stands.order) all
+    (all_reported_are c.args.detail (map phrase_mark c.args.marks.now) w order stands.order) all
     )
 
 pub loop-at-preserved : goal.loop-at-preserved
 loop-at-preserved g c = record {
   told = λ w stands.
-      let event = report_turn c.args.detail (map said_mark c.args.marks.now) in
+      let event = report_turn c.args.detail (map phrase_mark c.args.marks.now) in
       let order = c.args.self.now.order in
       let many = ap (λ (p : StreamingFields). length p.order) c.self.view_is in
       let below : c.loop-at.at < length c.args.self.now.order = omega (arith, many, c.len-at-end.ensures, c.self.inside.order.ok.0, c.loop-at-test.true) in
@@ -54,7 +54,7 @@ loop-at-preserved g c = record {
 
 pub returns-clause-tells : goal.returns-clause-tells
 returns-clause-tells g c = λ w stands.
-    let event = report_turn c.args.detail (map said_mark c.args.marks.now) in
+    let event = report_turn c.args.detail (map phrase_mark c.args.marks.now) in
     let order = c.args.self.now.order in
     let many = ap (λ (p : StreamingFields). length p.order) c.self.view_is in
     let past : length c.args.self.now.order ≤ c.loop-at.at = omega (arith, many, c.len-at-end.ensures, c.self.inside.order.ok.0, c.loop-at-test.false) in
@@ -62,4 +62,4 @@ returns-clause-tells g c = λ w stands.
     (c.loop-at.invariant.told w stands) in
     subst (λ (told : Telling StreamingWorld). Appends (g.K.Sink.written c.args.sink.now) (g.K.Sink.written c.loop-at.sink) (text_of told.lines)
     × StreamingStands c.loop-at.self c.args.device.now told.world)
-    (all_reported_are c.args.detail (map said_mark c.args.marks.now) w order stands.order) all
+    (all_reported_are c.args.detail (map phrase_mark c.args.marks.now) w order stands.order) all

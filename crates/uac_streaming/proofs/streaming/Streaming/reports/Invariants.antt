@@ -1,5 +1,5 @@
 use Rattle.std.proofs.Common.{◌≡◌, map}
-use Rattle.uac_script.specs.Line.{said_mark}
+use Rattle.uac_script.specs.Line.{phrase_mark}
 use Rattle.uac_streaming.specs.StreamingWorld.{StreamingWorld, report_turn}
 use Rattle.uac_streaming.specs.StreamingKept.{StreamingStands}
 use Rattle.uac_streaming.proofs.TellingLemmas.{InTurn}
@@ -8,7 +8,7 @@ use Rattle.uac_streaming.proofs.streaming.Streaming.reports.Given as goal
 abbrev pub invariant-loop-at : goal.invariant-loop-at
 invariant-loop-at g l = record {
   told : (w : StreamingWorld) → StreamingStands l.initial.self l.device w
-      → InTurn (report_turn l.detail (map said_mark l.marks)) l.initial.self.order l.at w (StreamingStands l.self l.device) (g.K.Sink.written l.fn.sink) (g.K.Sink.written l.sink);
+      → InTurn (report_turn l.detail (map phrase_mark l.marks)) l.initial.self.order l.at w (StreamingStands l.self l.device) (g.K.Sink.written l.fn.sink) (g.K.Sink.written l.sink);
   faultless : g.K.Sink.faults l.sink ≡ g.K.Sink.faults l.fn.sink;
   order : l.self.order ≡ l.initial.self.order;
 }

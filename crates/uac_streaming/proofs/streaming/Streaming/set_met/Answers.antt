@@ -1,7 +1,7 @@
 use Rattle.std.proofs.Common.{◌≡◌, ◌∙◌, ap, sym, length}
 use Rattle.std.proofs.lemmas.List.{length-set}
 use Rattle.uac_transcript.specs.declared.report.StreamCounts.{StreamCounts}
-use Rattle.uac_lanes.proofs.Turning.{put_back}
+use Rattle.uac_device_streams.proofs.Turning.{put_back}
 use Rattle.uac_streaming.specs.StreamingKept.{StreamingFields}
 use Rattle.uac_streaming.specs.StreamingWorld.{met_in}
 use Rattle.uac_streaming.proofs.Counted.{counts_put, counts_stay, place_below}

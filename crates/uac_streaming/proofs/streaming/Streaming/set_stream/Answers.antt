@@ -2,7 +2,7 @@ use Rattle.std.proofs.Common.{◌∙◌, refl, sym, subst, true, false, IfSome}
 use Rattle.std.specs.Option.{option_map}
 use Rattle.uac_topology.specs.Function.{FunctionFields}
 use Rattle.uac_alt.specs.AltStreams.{stream_fields}
-use Rattle.uac_host.specs.Calls.{IsStreamOf, with_stream}
+use Rattle.uac_host.specs.HostCalls.{IsStreamOf, with_stream}
 use Rattle.uac_streaming.specs.StreamingKept.{StreamingFields, StreamingStands}
 use Rattle.uac_streaming.specs.contracts.streaming.Streaming.{the_view}
 use Rattle.uac_streaming.proofs.Followed.{followed_so, seen_some}

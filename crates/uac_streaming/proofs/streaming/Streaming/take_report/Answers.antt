@@ -1,5 +1,5 @@
 use Rattle.std.proofs.Common.{refl, sym, subst, Bool, if◌then◌else◌}
-use Rattle.uac_host.specs.Calls.{with_report}
+use Rattle.uac_host.specs.HostCalls.{with_report}
 use Rattle.uac_streaming.specs.StreamingKept.{StreamingFields, StreamingStands}
 use Rattle.uac_streaming.specs.contracts.streaming.Streaming.{the_view}
 use Rattle.uac_streaming.proofs.Standing.{hosted}

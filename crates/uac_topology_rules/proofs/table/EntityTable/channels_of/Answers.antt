@@ -1,6 +1,6 @@
 use Rattle.std.proofs.Common.{◌≡◌, List, arith, ap, sym, ◌∙◌, length, get_or}
 use Rattle.uac_entities.specs.declared.entity.Entity.{Entity}
-use Rattle.uac_topology_rules.proofs.Channels.{channels_nowhere, channels_placed, channels_read}
+use Rattle.uac_topology_rules.proofs.TableLemmas.{channels_nowhere, channels_placed, channels_read}
 use Rattle.uac_topology_rules.proofs.TableSteps.{found_is}
 use Rattle.uac_topology_rules.proofs.table.EntityTable.channels_of.Goals as goal
 

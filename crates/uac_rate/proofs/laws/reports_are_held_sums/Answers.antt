@@ -1,5 +1,0 @@
-use Rattle.uac_rate.proofs.ReportsLemmas.{over_integers}
-use Rattle.uac_rate.proofs.laws.reports_are_held_sums.Goals as goal
-
-pub returns : goal.returns
-returns c = over_integers
