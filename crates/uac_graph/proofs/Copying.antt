@@ -1,5 +1,9 @@
--- Lists of one and of two samples, written one by one.
-use Rattle.std.proofs.Common.{◌≡◌, refl, arith, ap, ◌∙◌, ℤ, pos, List, [], ◌∷◌, length, get_or, set, replicate}
+-- Lists of one and of two samples, written one by one, and read.
+use Rattle.std.proofs.Common.{◌≡◌, refl, sym, arith, ap, ◌∙◌, ◌≤◌, ℕ, ℤ, pos, List, [], ◌∷◌, Option, Some, None, length, get_or, set, replicate, unwrap_or}
+use Rattle.std.specs.Option.{option_map}
+use Rattle.std.proofs.lemmas.Option.{same_Some}
+use Rattle.arrayvec.specs.declared.array_vec.ArrayVec.{ArrayVec}
+use Rattle.uac_graph.specs.FrameRows.{slot_after_passing}
 
 pub one_written : (list samples : List ℤ) (z : ℤ) → length list ≡ length samples → length samples ≡ 1 → z ≡ get_or samples 0 (pos 0) → set list 0 z ≡ samples
 one_written (y ∷ []) (x ∷ []) z same one is = ap (λ (s : ℤ). s ∷ []) is
@@ -28,3 +32,25 @@ two_hushed (y ∷ w ∷ []) two = refl
 two_hushed [] two = absurd (omega (arith, two))
 two_hushed (y ∷ []) two = absurd (omega (arith, two))
 two_hushed (y ∷ w ∷ v ∷ list) two = absurd (omega (arith, two))
+
+-- what two channels were read as
+pub two_samples : (samples : List ℤ) (a b : ℤ) → length samples ≡ 2 → a ≡ get_or samples 0 (pos 0) → b ≡ get_or samples 1 (pos 0) → samples ≡ a ∷ b ∷ []
+two_samples (x ∷ w ∷ []) a b two left right = ap (λ (s : ℤ). s ∷ w ∷ []) (sym left) ∙ ap (λ (s : ℤ). a ∷ s ∷ []) (sym right)
+two_samples [] a b two left right = absurd (omega (arith, two))
+two_samples (x ∷ []) a b two left right = absurd (omega (arith, two))
+two_samples (x ∷ w ∷ t ∷ samples) a b two left right = absurd (omega (arith, two))
+
+-- a frame that was written at a place where there is one, as its source was read
+pub read_and_written : (source held place : Option (ArrayVec ℤ 32 (Unit {0}))) (samples : List ℤ) (count : ℕ)
+    → unwrap_or (option_map (λ f. f.items) source) [] ≡ samples → 1 ≤ length samples
+    → option_map (λ f. length f.items) held ≡ Some count → option_map (λ f. f.items) place ≡ Some samples → place ≡ slot_after_passing source held
+read_and_written (Some f) (Some h) (Some p) samples count read some there written =
+    ap (λ (items : List ℤ). Some (record { items = items })) (same_Some p.items samples written ∙ sym read)
+read_and_written None held place samples count read some there written = absurd (omega (arith, some, ap length read))
+read_and_written (Some f) None place samples count read some there written = absurd (cc)
+read_and_written (Some f) (Some h) None samples count read some there written = absurd (cc)
+
+-- how many samples a frame has
+pub lengths_of : (frame : Option (ArrayVec ℤ 32 (Unit {0}))) → option_map (λ f. length f.items) frame ≡ option_map length (option_map (λ f. f.items) frame)
+lengths_of (Some f) = refl
+lengths_of None = refl

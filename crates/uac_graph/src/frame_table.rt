@@ -1,6 +1,6 @@
 // Frames by the ids of their entities.
 ghost use Rattle.std.specs.Prelude.{◌≡◌, ◌==◌, ◌≤◌, ◌<◌, ◌+◌, ◌^◌, ℕ, if◌then◌else◌, Some, None, IfOk};
-ghost use Rattle.std.specs.Prelude.{List, length, get_or, map, replicate, set, pos};
+ghost use Rattle.std.specs.Prelude.{List, [], ◌∷◌, length, get_or, unwrap_or, map, replicate, set, slice_index_or, pos};
 ghost use Rattle.uac_entities.specs.declared.entity.Entity.{Entity};
 ghost use Rattle.std.specs.Option.{option_map};
 ghost use Rattle.uac_units.specs.Rendering.{FitsKind, job_samples};
@@ -109,8 +109,9 @@ impl FrameTable {
             ≡ (if id == k then Some (job_samples (kind_of unit.now) job.now pins.now.items) else frame_on self.old k) }
         ensures counted { steps.new ≡ steps.old + 1 }
     {
-        if let Some(frame) = &mut self.row[id as usize] {
-            unit.render(job, pins, frame, steps);
+        match &mut self.row[id as usize] {
+            Some(frame) => unit.render(job, pins, frame, steps),
+            None => unreachable!(),
         }
     }
 
@@ -157,8 +158,76 @@ impl FrameTable {
     }
 }
 
-// Makes the frame at one place of a row that at another, where there is one at both.
+// Makes the frame at one place of a row that at another, which has as many channels. Most have one channel or two.
 fn pass_in(row: &mut [Option<Frame>], from: usize, to: usize)
+    requires from { from < length row.old }
+    requires to { to < length row.old }
+    requires alike { option_map (λ f. length f.items) (get_or row.old to None)
+        ≡ Some (length (unwrap_or (option_map (λ f. f.items) (get_or row.old from None)) [])) }
+    ensures { row.new ≡ set row.old to (slot_after_passing (get_or row.old from None) (get_or row.old to None)) }
+{
+    let channels = channels_at(&row[from]);
+    if channels == 1 {
+        let only = sample_of(&row[from], 0);
+        write_one(&mut row[to], only);
+    } else if channels == 2 {
+        let left = sample_of(&row[from], 0);
+        let right = sample_of(&row[from], 1);
+        write_two(&mut row[to], left, right);
+    } else {
+        pass_wide(row, from, to);
+    }
+}
+
+// How many channels the frame at a place has, none where there is no frame.
+fn channels_at(slot: &Option<Frame>) -> usize
+    ensures { result ≡ length (unwrap_or (option_map (λ f. f.items) slot.now) []) }
+{
+    match slot {
+        Some(frame) => frame.len(),
+        None => 0,
+    }
+}
+
+// A channel's sample of the frame at a place.
+fn sample_of(slot: &Option<Frame>, channel: usize) -> i32
+    requires { channel < length (unwrap_or (option_map (λ f. f.items) slot.now) []) }
+    ensures { result ≡ slice_index_or (unwrap_or (option_map (λ f. f.items) slot.now) []) channel (pos 0) }
+{
+    match slot {
+        Some(frame) => frame.as_slice()[channel],
+        None => unreachable!(),
+    }
+}
+
+// Makes the frame at a place, of one channel, this sample.
+fn write_one(place: &mut Option<Frame>, only: i32)
+    requires { option_map (λ f. length f.items) place.old ≡ Some 1 }
+    ensures { option_map (λ f. f.items) place.new ≡ Some (only ∷ []) }
+{
+    match place {
+        Some(frame) => frame.as_mut_slice()[0] = only,
+        None => unreachable!(),
+    }
+}
+
+// Makes the frame at a place, of two channels, these samples.
+fn write_two(place: &mut Option<Frame>, left: i32, right: i32)
+    requires { option_map (λ f. length f.items) place.old ≡ Some 2 }
+    ensures { option_map (λ f. f.items) place.new ≡ Some (left ∷ right ∷ []) }
+{
+    match place {
+        Some(frame) => {
+            let samples = frame.as_mut_slice();
+            samples[0] = left;
+            samples[1] = right;
+        }
+        None => unreachable!(),
+    }
+}
+
+// Makes the frame at one place of a row that at another, where there is one at both.
+fn pass_wide(row: &mut [Option<Frame>], from: usize, to: usize)
     requires from { from < length row.old }
     requires to { to < length row.old }
     ensures { row.new ≡ set row.old to (slot_after_passing (get_or row.old from None) (get_or row.old to None)) }

@@ -1,15 +1,27 @@
-use Rattle.uac_graph.proofs.RowsById.{passed_back, passed_front}
+use Rattle.std.proofs.Common.{◌≡◌, ◌∙◌, ap, sym, arith, ℤ, List, [], ◌∷◌, Option, Some, None, get_or, length, set, unwrap_or, pos, w32, to_z, of_z}
+use Rattle.std.proofs.lemmas.Int.{to_z-of_z}
+use Rattle.std.specs.Option.{option_map}
+use Rattle.std.proofs.lemmas.List.{get_or_default}
+use Rattle.arrayvec.specs.declared.array_vec.ArrayVec.{ArrayVec}
+use Rattle.uac_graph.proofs.Copying.{two_samples, read_and_written}
 use Rattle.uac_graph.proofs.frame_table.pass_in.Goals as goal
 
-pub returns-then-from-to : goal.returns-then-from-to
-returns-then-from-to c =
-    passed_back c.args.row.now c.split_at_mut-front.result.0.now c.split_at_mut-front.result.1.now c.args.from c.args.to c.index-front-from.result c.index-back-0.result
-    c.pass_frame.new.place c.split_at_mut-front.ensures.value c.split_at_mut-front.ensures.front_len c.if-from-to.true c.requires.to
-    c.pass_frame.ensures
-
-pub returns-then-to-from : goal.returns-then-to-from
-returns-then-to-from c =
-    let parts = c.split_at_mut-front-then-to-from in
-    passed_front c.args.row.now parts.result.0.now parts.result.1.now c.args.from c.args.to c.index-back-0-then-to-from.result c.index-front-to.result
-    c.pass_frame-then-to-from.new.place parts.ensures.value parts.ensures.front_len c.if-to-from.true c.requires.from
-    c.pass_frame-then-to-from.ensures
+pub returns-then-channels-eq2 : goal.returns-then-channels-eq2
+returns-then-channels-eq2 c =
+    let row = c.args.row.now in
+    let from = c.args.from in
+    let samples : Option (ArrayVec ℤ 32 (Unit {0})) → List ℤ = λ o. unwrap_or (option_map (λ f. f.items) o) [] in
+    let read : (d : Option (ArrayVec ℤ 32 (Unit {0}))) → samples (get_or row from None) ≡ samples (get_or row from d) =
+    λ d. ap samples (get_or_default row from None d c.requires.from) in
+    let left = c.sample_of-left in
+    let right = c.sample_of-right in
+    ap (set row c.args.to)
+    (read_and_written (get_or row from None) (get_or row c.args.to None) c.write_two.new.place (left.result ∷ right.result ∷ []) _
+    (two_samples (samples (get_or row from None)) left.result right.result
+    (ap length (read c.index-row-from.result) ∙ sym c.channels_at-channels.ensures ∙ c.if-channels-eq2.true)
+    (left.ensures ∙ ap (λ l. get_or l 0 (pos 0)) (sym (read c.index-row-from-then-channels-eq2.result)))
+    (right.ensures ∙ ap (λ l. get_or l 1 (pos 0)) (sym (read c.index-row-from-then-channels-eq2-2.result))))
+    (omega arith) c.requires.alike
+    (c.write_two.ensures
+    ∙ ap (λ (z : ℤ). Some (z ∷ to_z w32 (of_z w32 right.result) ∷ [])) (to_z-of_z w32 left.result (record { sfits = left.type_inv }))
+    ∙ ap (λ (z : ℤ). Some (left.result ∷ z ∷ [])) (to_z-of_z w32 right.result (record { sfits = right.type_inv }))))
