@@ -1,5 +1,5 @@
-pub mod Changed
-pub mod Parts
-pub mod Formats
-pub mod Found
-pub mod Fitting
+pub mod AltSettingsLemmas
+pub mod AltStreamsLemmas
+pub mod FormedLemmas
+pub mod AltStreamsFoundLemmas
+pub mod AltStreamsPacketLemmas

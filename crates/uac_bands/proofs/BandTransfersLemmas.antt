@@ -9,20 +9,20 @@ use Rattle.uac_topology.specs.Function.{FunctionFields, interface_in}
 use Rattle.uac_alt.specs.AltStreams.{StreamFields}
 use Rattle.uac_alt.specs.AltSettings.{setting_of, with_setting}
 use Rattle.uac_alt.specs.declared.settings.InterfaceSetting.{InterfaceSetting}
-use Rattle.uac_alt.proofs.Changed.{setting_of_changed}
+use Rattle.uac_alt.proofs.AltSettingsLemmas.{setting_of_changed}
 use Rattle.uac_request.specs.Requests.{AreSettingsOf, RequestState, AnswerFields, after_request, unbroken_reply, controls_set, cur_named, first_broken, gets_cur, gets_descriptor, gets_interface, gets_range, is_done, is_stalled, left_by, ranges_named, reply_of, sets_cur, with_bytes, with_descriptor, sets_interface, is_done_answer}
 use Rattle.uac_request.specs.declared.setup.Setup.{Setup}
-use Rattle.uac_request.proofs.Lasting.{settings_stay, store_stays}
+use Rattle.uac_request.proofs.RequestsLemmas.{settings_stay, store_stays}
 use Rattle.uac_flow.specs.FlowStreams.{OutStream}
 use Rattle.uac_host.specs.HostCalls.{with_stream}
 use Rattle.uac_device_streams.specs.InterfaceStreams.{out_from}
 use Rattle.uac_device.specs.DeviceWorld.{after_restart}
 use Rattle.uac_running.specs.RunningWorld.{RunningWorld}
 use Rattle.uac_bands.specs.BandTransfers.{IsSoundRun, TransfersKeepSound}
-use Rattle.uac_bands.proofs.Once.{not_this, own_number}
-use Rattle.uac_bands.proofs.Shown.{if_true}
-use Rattle.uac_bands.proofs.Asked.{asked_of, parts_of}
-use Rattle.uac_bands.proofs.Requested.{after, asked_device, begun, done, given_then, held, seen, transferred_so}
+use Rattle.uac_bands.proofs.TellingTurnLemmas.{not_this, own_number}
+use Rattle.uac_bands.proofs.LifeTurnLemmas.{if_true}
+use Rattle.uac_bands.proofs.AltStreamsLemmas.{asked_of, parts_of}
+use Rattle.uac_bands.proofs.BandTransfersRequestLemmas.{after, asked_device, begun, done, given_then, held, seen, transferred_so}
 use Rattle.uac_bands.proofs.BandTransfersRunLemmas.{carried}
 
 -- ---- settings

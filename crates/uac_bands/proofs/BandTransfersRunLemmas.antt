@@ -27,11 +27,11 @@ use Rattle.uac_running.specs.RunningWorld.{RunningWorld, with_detail, with_devia
 use Rattle.uac_running.specs.RunningTransfers.{with_break}
 use Rattle.uac_running.specs.Events.{microframe}
 use Rattle.uac_bands.specs.BandTransfers.{CallsKeepSound, IsInSetting, IsSoundRun, MicroframesKeepSound}
-use Rattle.uac_bands.proofs.Once.{stepped}
-use Rattle.uac_bands.proofs.KeptSteps.{IsKeptByEach, microframe_keeps}
-use Rattle.uac_bands.proofs.Stayed.{microframes_keep_the_rest}
-use Rattle.uac_bands.proofs.Unstarted.{microframe_none}
-use Rattle.uac_bands.proofs.Begun.{found_off, off, off_slight, samples_whole, track_whole}
+use Rattle.uac_bands.proofs.TellingTurnLemmas.{stepped}
+use Rattle.uac_bands.proofs.RunningWorldKeptLemmas.{IsKeptByEach, microframe_keeps}
+use Rattle.uac_bands.proofs.ProjectionKeptLemmas.{microframes_keep_the_rest}
+use Rattle.uac_bands.proofs.RunningWorldRestLemmas.{microframe_none}
+use Rattle.uac_bands.proofs.BeginningsLemmas.{found_off, off, off_slight, samples_whole, track_whole}
 
 abbrev deviations_of : List Domain → List ℤ
 deviations_of ds = map (λ d. d.deviation) ds
@@ -126,7 +126,7 @@ microframes_keep_sound marks r sound =
           (All-map (λ m. is_slight m ≡ true) (λ (d : Domain). d.deviation) r.device.domains sound.slight));
       clocked = λ k clock goes on.
           known_clock clock after.device.domains
-          ∙ ap (list_any (λ (n : ℕ). n == clock)) stays.clocks ∙ sym (known_clock clock r.device.domains)
+          ∙ ap (list_any (λ (n : ℕ). n == clock)) stays.domains ∙ sym (known_clock clock r.device.domains)
           ∙ sound.clocked k clock (subst (λ (f : FunctionFields). goes_out f k ≡ true) stays.function goes)
           (subst (λ (f : FunctionFields). option_map (λ s. (entity f.entities s.terminal).clock) (interface_in f k) ≡ Some clock) stays.function on);
     }

@@ -13,16 +13,16 @@ use Rattle.uac_entities.specs.declared.stream.StreamInterface.{StreamInterface}
 use Rattle.uac_topology_rules.specs.Clusters.{cluster_of, with_own_clusters, is_input}
 use Rattle.uac_topology_rules.specs.Domains.{clock_named, domains_of, each_once}
 use Rattle.uac_topology_rules.specs.Links.{is_terminal}
-use Rattle.uac_topology_rules.specs.Table.{at, nothing, place_of, with_cluster}
+use Rattle.uac_topology_rules.specs.Table.{at, nothing, index_of, with_cluster}
 use Rattle.uac_topology.specs.Function.{FunctionFields, interface_in}
 use Rattle.uac_topology.specs.Topology.{IsSoundFunction}
-use Rattle.uac_topology.proofs.Clustered.{with_own_clusters-at, length-with_own_clusters}
-use Rattle.uac_topology.proofs.Pins.{have_pins}
+use Rattle.uac_topology.proofs.ClustersLemmas.{with_own_clusters-at, length-with_own_clusters}
+use Rattle.uac_topology.proofs.FunctionKeptPinLemmas.{have_pins}
 use Rattle.uac_rate.specs.Steadiness.{is_slight}
 use Rattle.uac_graph.specs.Meaning.{entity}
-use Rattle.uac_store.proofs.Initial.{initial_is_store}
-use Rattle.uac_store.proofs.Soundness.{keyed}
-use Rattle.uac_request.proofs.Started.{are_settings}
+use Rattle.uac_store.proofs.StoreControlsLemmas.{initial_is_store}
+use Rattle.uac_store.proofs.StoreControlsSoundLemmas.{keyed}
+use Rattle.uac_request.proofs.RequestsStartLemmas.{are_settings}
 use Rattle.uac_host.specs.HostWorld.{fresh_host}
 use Rattle.uac_host.specs.HostCalls.{channels_at}
 use Rattle.uac_device.specs.DeviceWorld.{resting_domain, fresh}
@@ -30,7 +30,7 @@ use Rattle.uac_device.specs.Linked.{IsBusInput}
 use Rattle.uac_device.proofs.LinkedLemmas.{linked}
 use Rattle.uac_running.specs.RunningWorld.{at_start}
 use Rattle.uac_bands.specs.BandTransfers.{RunsStartSound}
-use Rattle.uac_bands.proofs.Once.{Among, among_kept, own_number}
+use Rattle.uac_bands.proofs.TellingTurnLemmas.{Among, among_kept, own_number}
 use Rattle.uac_bands.proofs.ProjectionLemmas.{resting_clocks}
 use Rattle.uac_bands.proofs.BandTransfersRunLemmas.{known_clock}
 
@@ -82,7 +82,7 @@ module _ (is_kind : EntityKind → Bool) (terminal : (k : EntityKind) → is_kin
     (none : is_kind nothing.kind ≡ false) where
   terminal_clock : (es : List Entity) (id : ℕ) → is_kind (entity (with_own_clusters es) id).kind ≡ true
       → Among (entity (with_own_clusters es) id).clock (domains_of es)
-  unfolding entity at place_of domains_of
+  unfolding entity at index_of domains_of
   terminal_clock es id is = elim (cases_lt (position_or_len (λ (e : Entity). e.id == id) (with_own_clusters es)) (length (with_own_clusters es))) [
     | inl below ↦
         (let i : ℕ = position_or_len (λ (e : Entity). e.id == id) (with_own_clusters es) in

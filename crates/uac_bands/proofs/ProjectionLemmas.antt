@@ -6,7 +6,7 @@ use Rattle.uac_device.specs.DeviceWorld.{DeviceWorld, Domain, resting_domain, af
 use Rattle.uac_mixer.specs.declared.link.When.{When}
 use Rattle.uac_mixer.specs.declared.link.When.TheVariants as when
 use Rattle.uac_streaming.specs.StreamingWorld.{after_following}
-use Rattle.uac_streaming.proofs.RoomKeptLemmas.{domains_apart}
+use Rattle.uac_streaming.proofs.RoomStartLemmas.{domains_apart}
 use Rattle.uac_running.specs.RunningWorld.{streaming_of}
 use Rattle.uac_running.specs.RunningTransfers.{acts, holds_setting, after_transfer}
 use Rattle.uac_bands.specs.Projection.{DeviationsKeepOrder, IsOrdered, RequestsKeepOrder, StartsAreOrdered, TransfersKeepOrder}
@@ -19,7 +19,7 @@ pub starts_are_ordered : StartsAreOrdered
 unfolding fresh
 starts_are_ordered function sound numbers = record {
   apart = domains_apart function sound;
-  clocks = resting_clocks function.domains;
+  domains = resting_clocks function.domains;
   numbers = numbers;
 }
 
@@ -43,7 +43,7 @@ pub deviations_keep_order : DeviationsKeepOrder
 unfolding after_deviation
 deviations_keep_order clock ppm w ordered = record {
   apart = ordered.apart;
-  clocks = off_clocks clock ppm w.domains ∙ ordered.clocks;
+  domains = off_clocks clock ppm w.domains ∙ ordered.domains;
   numbers = ordered.numbers;
 }
 
@@ -58,8 +58,8 @@ requests_keep_order p bytes w ordered = by (sets_interface p && is_done_answer (
         → (let after = after_request w.function (request_state w.controls w.settings) p bytes in
         let asked : DeviceWorld = record w { controls = after.controls; settings = after.settings } in
         IsOrdered (if b then after_restart p.index begun asked else asked))
-    by true = record { apart = ordered.apart; clocks = ordered.clocks; numbers = ordered.numbers }
-    by false = record { apart = ordered.apart; clocks = ordered.clocks; numbers = ordered.numbers }
+    by true = record { apart = ordered.apart; domains = ordered.domains; numbers = ordered.numbers }
+    by false = record { apart = ordered.apart; domains = ordered.domains; numbers = ordered.numbers }
 
 pub transfers_keep_order : TransfersKeepOrder
 unfolding after_transfer after_following

@@ -35,7 +35,7 @@ life_of r interface =
     option_and_then (λ out.
     option_and_then (λ pace.
     option_and_then (λ d.
-    option_map (λ place. record { out = out; pace = pace; steps = d.steps; reports = r.history.feedback place })
+    option_map (λ index. record { out = out; pace = pace; steps = d.steps; reports = r.history.feedback index })
     (stream_index r.device.function interface))
     (domain_on r interface))
     (r.host.paces interface))

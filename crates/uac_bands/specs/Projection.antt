@@ -20,7 +20,7 @@ use Rattle.uac_bands.specs.Life.{Life, domain_on, life_after, life_of}
 -- (USB 2.0, 9.6.5)
 pub record IsOrdered (w : DeviceWorld) : Type 0 where
   pub apart : IsDistinct nat_eq w.function.domains
-  pub clocks : map (λ d. d.id) w.domains ≡ w.function.domains
+  pub domains : map (λ d. d.id) w.domains ≡ w.function.domains
   pub numbers : All (λ s. s.number < 256) w.function.streams
 
 -- an interface runs a stream to the device: its life, and its clock domain
@@ -66,7 +66,7 @@ TracksGoOn =
 pub record Stays (before after : RunningWorld) : Type 0 where
   pub function : after.device.function ≡ before.device.function
   pub controls : after.device.controls ≡ before.device.controls
-  pub clocks : map (λ d. d.id) after.device.domains ≡ map (λ d. d.id) before.device.domains
+  pub domains : map (λ d. d.id) after.device.domains ≡ map (λ d. d.id) before.device.domains
   pub host : after.host.function ≡ before.host.function
 
 abbrev pub MicroframesKeepTheRest : Type 0

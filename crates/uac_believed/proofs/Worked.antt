@@ -19,7 +19,7 @@ use Rattle.uac_mixer.specs.ViewTransfers.{is_for, value_after, view_after}
 use Rattle.uac_running.specs.RunningTransfers.{comes_back, transfer, after_transfer, with_break}
 use Rattle.uac_bus.specs.BusWorld.{step}
 use Rattle.uac_bus.specs.After.{after}
-use Rattle.uac_believed.specs.Unknown.{elements_in, tells, knowledge_after}
+use Rattle.uac_believed.specs.Unknown.{elements_in, reveals, knowledge_after}
 
 abbrev with : ℕ → EntityKind → List ℕ → List ℕ → Entity
 with id k sources words =
@@ -82,7 +82,7 @@ told : (knowledge_after broken (running world) volume ≡ false ∷ [])
     × (knowledge_after (broken ++ set_it ∷ []) (running world) volume ≡ false ∷ true ∷ [])
     × (knowledge_after (break ∷ get_both ∷ []) (running world) volume ≡ [])
     × (knowledge_after (broken ++ get_one ∷ get_both ∷ []) (running world) mute ≡ [])
-unfolding knowledge_after after broken break set_it get_one get_both values_following world device volume mute at_start step transfer after_transfer tells is_for comes_back with_break reply_of first_broken breaks_q1 breaks_q2 breaks_q3 breaks_q4 breaks_q5 breaks_q6 breaks_q7 breaks_q8 breaks_q9 breaks_q10 breaks_q11 breaks_q12 owner_of entity_by_id count_of fresh after_control unbroken_reply cur_bytes value_bytes value_of initial_controls controls_of channel_controls first_channels start_of has_on ranges_of is_legal value_from view_after value_after after_request with_value left_by takes takes_on
+unfolding knowledge_after after broken break set_it get_one get_both values_following world device volume mute at_start step transfer after_transfer reveals is_for comes_back with_break reply_of first_broken breaks_q1 breaks_q2 breaks_q3 breaks_q4 breaks_q5 breaks_q6 breaks_q7 breaks_q8 breaks_q9 breaks_q10 breaks_q11 breaks_q12 owner_of entity_by_id count_of fresh after_control unbroken_reply cur_bytes value_bytes value_of initial_controls controls_of channel_controls first_channels start_of has_on ranges_of is_legal value_from view_after value_after after_request with_value left_by takes takes_on
 told = (refl, refl, refl, refl, refl, refl)
 
 -- and the view's values, the volume's first
@@ -91,5 +91,5 @@ values : (values_following broken ≡ None ∷ Some (pos 0) ∷ [])
     × (values_following (broken ++ get_one ∷ get_both ∷ []) ≡ Some (negsuc 2559) ∷ Some (pos 0) ∷ [])
     × (values_following (broken ++ set_it ∷ []) ≡ Some (negsuc 2559) ∷ Some (pos 0) ∷ [])
     × (values_following (break ∷ get_both ∷ []) ≡ Some (pos 0) ∷ Some (pos 0) ∷ [])
-unfolding knowledge_after after broken break set_it get_one get_both values_following world device volume mute at_start step transfer after_transfer tells is_for comes_back with_break reply_of first_broken breaks_q1 breaks_q2 breaks_q3 breaks_q4 breaks_q5 breaks_q6 breaks_q7 breaks_q8 breaks_q9 breaks_q10 breaks_q11 breaks_q12 owner_of entity_by_id count_of fresh after_control unbroken_reply cur_bytes value_bytes value_of initial_controls controls_of channel_controls first_channels start_of has_on ranges_of is_legal value_from view_after value_after after_request with_value left_by takes takes_on
+unfolding knowledge_after after broken break set_it get_one get_both values_following world device volume mute at_start step transfer after_transfer reveals is_for comes_back with_break reply_of first_broken breaks_q1 breaks_q2 breaks_q3 breaks_q4 breaks_q5 breaks_q6 breaks_q7 breaks_q8 breaks_q9 breaks_q10 breaks_q11 breaks_q12 owner_of entity_by_id count_of fresh after_control unbroken_reply cur_bytes value_bytes value_of initial_controls controls_of channel_controls first_channels start_of has_on ranges_of is_legal value_from view_after value_after after_request with_value left_by takes takes_on
 values = (refl, refl, refl, refl, refl)

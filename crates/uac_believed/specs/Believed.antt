@@ -1,7 +1,7 @@
 -- What the host knows of a control is the device's value, after every list of lines of a script (Audio Class 2.0, 5.2; profile).
 use Rattle.std.specs.Prelude.{ℕ, List, map}
 use Rattle.uac_units.specs.Hearing.{Reading}
-use Rattle.uac_script.specs.LineReading.{answer}
+use Rattle.uac_script.specs.LineParsing.{answer}
 use Rattle.uac_mixer.specs.Agreement.{IsAgreed}
 use Rattle.uac_bus.specs.BusWorld.{BusWorld, describing, running, start}
 use Rattle.uac_bus.specs.After.{after}

@@ -4,7 +4,7 @@ use Rattle.std.specs.Prelude.{ℕ, ◌^◌, ◌<◌, ◌≤◌, List, map, lengt
 use Rattle.std.specs.List.{All}
 use Rattle.uac_units.specs.Hearing.{Reading}
 use Rattle.uac_script.specs.ScriptLines.{most_of_input}
-use Rattle.uac_script.specs.LineReading.{answer}
+use Rattle.uac_script.specs.LineParsing.{answer}
 use Rattle.uac_transcript.specs.declared.report.StreamCounts.{StreamCounts}
 use Rattle.uac_running.specs.RunningWorld.{RunningWorld}
 use Rattle.uac_running.specs.RunningLines.{ticks_since}

@@ -14,7 +14,7 @@ use Rattle.uac_mixer.specs.declared.element.Element.{Element}
 use Rattle.uac_script.specs.Phrase.{Phrase, nothing_line, bytes_line, go_line, control_line, get_line, set_line, show_line, break_line}
 use Rattle.uac_script.specs.Phrase.{append_line, track_line, jack_line, deviate_line, microframes_line}
 use Rattle.uac_script.specs.Phrase.{detail_line, report_line}
-use Rattle.uac_script.specs.LineReading.{answer}
+use Rattle.uac_script.specs.LineParsing.{answer}
 use Rattle.uac_running.specs.RunningWorld.{RunningWorld}
 use Rattle.uac_running.specs.RunningTransfers.{comes_back, element_named}
 use Rattle.uac_bus.specs.BusWorld.{Step, BusWorld, describing, done, refused, running, start}
@@ -52,7 +52,7 @@ transfer_of (microframes_line count marks) r = None
 transfer_of (detail_line level) r = None
 transfer_of report_line r = None
 
--- ---- what it tells of an element
+-- ---- what it reveals of an element
 
 -- nothing came back: the transfer broke
 abbrev pub is_broken : Option AnswerFields → Bool
@@ -82,31 +82,31 @@ is_get r x t = mixer.gets r.device.function.control_interface t.setup x
 abbrev pub came_back : RunningWorld → Transfer → Option AnswerFields
 came_back r t = comes_back t.setup t.sent r
 
--- a set that broke tells that the element's value is unknown; a set that is done tells that it is known, and so does a get that brings all
--- bytes of the control; any other transfer tells nothing of it
-unfoldable pub tells : RunningWorld → Element → Transfer → Option Bool
-tells r x t =
+-- a set that broke reveals that the element's value is unknown; a set that is done reveals that it is known, and so does a get that brings
+-- all bytes of the control; any other transfer reveals nothing of it
+unfoldable pub reveals : RunningWorld → Element → Transfer → Option Bool
+reveals r x t =
     if is_set r x t && is_broken (came_back r t) then Some false
     else if (is_set r x t && came_done (came_back r t)) || (is_get r x t && brings (width_of x.kind) (came_back r t)) then Some true
     else None
 
--- ---- what lines tell
+-- ---- what lines reveal
 
--- what a line tells of an element, by the transfer that it makes of a running device
-abbrev pub tells_in : BusWorld → Result Phrase ℕ → Element → Option Bool
-tells_in (describing bytes meters) said x = None
-tells_in (running r) (Ok phrase) x = option_and_then (tells r x) (transfer_of phrase r)
-tells_in (running r) (Err rule) x = None
+-- what a line reveals of an element, by the transfer that it makes of a running device
+abbrev pub reveals_in : BusWorld → Result Phrase ℕ → Element → Option Bool
+reveals_in (describing bytes meters) said x = None
+reveals_in (running r) (Ok phrase) x = option_and_then (reveals r x) (transfer_of phrase r)
+reveals_in (running r) (Err rule) x = None
 
 -- of what a line made of the world, where it was done
 abbrev pub if_done : Step → (BusWorld → List Bool) → List Bool
 if_done (done next lines) go = go next
 if_done (refused fault) go = []
 
--- what lines told of an element, in order, up to the first line that is refused
+-- what lines revealed of an element, in order, up to the first line that is refused
 unfoldable pub knowledge_after : List (Result Phrase ℕ) → BusWorld → Element → List Bool
 knowledge_after [] w x = []
-knowledge_after (said ∷ saids) w x = if_done (said_step said w) (λ next. cons_option (tells_in w said x) (knowledge_after saids next x))
+knowledge_after (said ∷ saids) w x = if_done (said_step said w) (λ next. cons_option (reveals_in w said x) (knowledge_after saids next x))
 
 -- the last of these, or this where there is none
 unfoldable pub last_or : Bool → List Bool → Bool
@@ -135,7 +135,7 @@ pub record IsLost (saids : List (Result Phrase ℕ)) (w : BusWorld) (x : Element
   pub following : List (Result Phrase ℕ)
   pub cut : saids ≡ before ++ said ∷ following
   pub whole : (after (before ++ said ∷ []) w).refusal ≡ None
-  pub broke : tells_in (after before w).world said x ≡ Some false
+  pub broke : reveals_in (after before w).world said x ≡ Some false
   pub since : knowledge_after following (after (before ++ said ∷ []) w).world x ≡ []
 
 -- after every list of lines exactly those values are unknown that were lost

@@ -1,7 +1,7 @@
 -- What the lines' proofs share.
-pub mod DescriptorLines
-pub mod Stepping
-pub mod Rowing
-pub mod Framing
-pub mod TransferRows
+pub mod BusWorldDescriptorLemmas
+pub mod BusWorldLemmas
+pub mod BusRowsLemmas
+pub mod HostCallsFrameLemmas
+pub mod BusWorldElementLemmas
 pub mod AfterLemmas

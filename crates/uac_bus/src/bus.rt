@@ -154,7 +154,7 @@ impl Bus {
         match advance(self.alloc, &mut self.stage, line, rack, meters, sink) {
             Ok(()) => return Ok(()),
             Err(fault) => {
-                if !is_kept(fault) {
+                if !is_final(fault) {
                     return Err(fault);
                 }
                 self.fault = Some(fault);
@@ -178,8 +178,8 @@ impl Bus {
     }
 }
 
-/// Whether a fault is answered to each further line, too.
-fn is_kept(fault: BusFault) -> bool
+/// Whether a fault is answered again from now on.
+fn is_final(fault: BusFault) -> bool
     ensures { result ≡ is_final fault }
 {
     match fault {

@@ -20,8 +20,8 @@ use Rattle.uac_describe.specs.Closing.{Closes, IsFaultless}
 use Rattle.uac_describe.specs.Answered.{IsDescribed}
 use Rattle.uac_cli.specs.Call.{AreAnswered, IsCall, ComesOfCommand, IsGenerated, PrintsAlone, ask_to_read, reads_all}
 use Rattle.uac_describe.specs.SettleLines.{settle_outcome}
-use Rattle.uac_describe.proofs.Answering.{closes_faultless, told_status}
-use Rattle.uac_cli.proofs.Answering.{described_run, usage_run}
+use Rattle.uac_describe.proofs.AnsweredLemmas.{closes_faultless, told_status}
+use Rattle.uac_cli.proofs.ScriptRunLemmas.{described_run, usage_run}
 
 -- a text was printed, and nothing was taken or heard
 pub printed : (outcome : Outcome) (shown : List Reading) (left : Option (List ℕ)) (reads : ℕ) (w w' : Option (List ℕ)) (f f' : ℕ) (status : Status)

@@ -5,7 +5,7 @@ use Rattle.std.proofs.lemmas.List.{append-nil}
 use Rattle.uac_gen.specs.Generator.{generated_lines}
 use Rattle.uac_gen.specs.GeneratedScript.{script_of}
 use Rattle.uac_script.specs.ScriptLines.{most_of_input, unended}
-use Rattle.uac_script.specs.LineReading.{answer}
+use Rattle.uac_script.specs.LineParsing.{answer}
 use Rattle.uac_transcript.specs.Printing.{text_of}
 use Rattle.uac_bus.specs.declared.fault.BusFault.{BusFault}
 use Rattle.uac_bus.specs.BusWorld.{BusWorld, finish_of}
@@ -13,7 +13,7 @@ use Rattle.uac_bus.specs.After.{After}
 use Rattle.uac_steady.specs.Scripts.{after_texts}
 use Rattle.uac_generated.specs.Generated.{IsLineOfScript}
 use Rattle.uac_generated.proofs.GeneratedLemmas.{generated_scripts_are_done, generated_scripts_are_scripts, generated_scripts_are_steady}
-use Rattle.uac_promises.proofs.AllScripts.{all_scripts_keep_promises}
+use Rattle.uac_promises.proofs.PromisesLemmas.{all_scripts_keep_promises}
 use Rattle.uac_describe.specs.declared.status.Status.TheVariants as statuses
 use Rattle.uac_describe.specs.Outcome.{at_end}
 use Rattle.uac_scripts.specs.Script as script
@@ -22,8 +22,8 @@ use Rattle.uac_scripts.specs.Script.{IsScriptLine, come_to}
 use Rattle.uac_scripts.specs.ScriptTranscript.{Ending, with_text_first, closed_by, ends, ending_at}
 use Rattle.uac_scripts.specs.Computed.{goes, transcript}
 use Rattle.uac_cli.specs.GeneratedCall.{GeneratedScriptsRunWhole}
-use Rattle.uac_scripts.proofs.Agreeing.{all_say, is_transcript}
-use Rattle.uac_scripts.proofs.Going.{goes_at, head_nothing}
+use Rattle.uac_scripts.proofs.ComputedLemmas.{all_say, is_transcript}
+use Rattle.uac_scripts.proofs.ScriptTranscriptLemmas.{goes_at, head_nothing}
 use Rattle.uac_scripts.proofs.ScriptLemmas.{script_lines}
 
 are_lines : (texts : List (List ℕ)) → AllByRecursion IsLineOfScript texts → AllByRecursion IsScriptLine texts

@@ -1,6 +1,6 @@
-pub mod Answering
-pub mod Asking
+pub mod ScriptRunLemmas
+pub mod ProgramLemmas
 pub mod CallLemmas
-pub mod Completed
+pub mod CompletenessLemmas
 pub mod GeneratedCallLemmas
-pub mod HandingOn
+pub mod CallHandingOnLemmas

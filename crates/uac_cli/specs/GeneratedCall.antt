@@ -9,7 +9,7 @@ use Rattle.uac_script.specs.Phrase.{Phrase}
 use Rattle.uac_transcript.specs.Printing.{text_of}
 use Rattle.uac_bus.specs.BusWorld.{start}
 use Rattle.uac_bus.specs.After.{after}
-use Rattle.uac_promises.specs.Promises.{KeepsPromises}
+use Rattle.uac_promises.specs.Promises.{IsAsPromised}
 use Rattle.uac_describe.specs.declared.status.Status.TheVariants as statuses
 use Rattle.uac_describe.specs.Outcome.{at_end}
 use Rattle.uac_scripts.specs.ScriptTranscript.{IsTranscript, with_text_first, ends}
@@ -22,7 +22,7 @@ pub record RunsWhole (number : ℕ) (shown : List Reading) : Type 0 where
   pub transcript_is :
       IsTranscript shown (script_of number) at_end (with_text_first (text_of (after saids (start shown)).lines)
       (ends (record { text = []; status = statuses.Ok }) (after saids (start shown)).world))
-  pub promised : KeepsPromises saids shown
+  pub promised : IsAsPromised saids shown
 
 abbrev pub GeneratedScriptsRunWhole : Type 0
 GeneratedScriptsRunWhole = (number : ℕ) (shown : List Reading) → number < 2 ^ 32 → RunsWhole number shown

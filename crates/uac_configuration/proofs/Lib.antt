@@ -1,3 +1,3 @@
 -- What the proofs share, here and above.
 pub mod ConfigurationLemmas
-pub mod Described
+pub mod DescriptionLemmas

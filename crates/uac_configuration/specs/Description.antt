@@ -3,7 +3,7 @@ use Rattle.std.specs.Prelude.{ℕ, List, [], ◌∷◌, Option, None, Some}
 use Rattle.uac_descriptor.specs.declared.context.Context.{Context}
 use Rattle.uac_descriptor.specs.declared.context.Context.TheVariants as context
 use Rattle.uac_descriptor.specs.declared.block.Block.{Block}
-use Rattle.uac_descriptor.specs.BlockReading.{block_of}
+use Rattle.uac_descriptor.specs.BlockParsing.{block_of}
 use Rattle.uac_sentence.specs.Cutting.{chop}
 use Rattle.uac_sentence.specs.Letter.{context_after}
 use Rattle.uac_entities.specs.Entities.{entities_of}
@@ -19,8 +19,8 @@ first_then (Some b) following = b ∷ following b
 
 -- the blocks of these pieces, each read in the context in which it stands
 unfoldable pub blocks_from : Context → List (List ℕ) → List Block
-blocks_from place [] = []
-blocks_from place (piece ∷ pieces) = first_then (block_of place piece) (λ b. blocks_from (context_after place b) pieces)
+blocks_from context [] = []
+blocks_from context (piece ∷ pieces) = first_then (block_of context piece) (λ b. blocks_from (context_after context b) pieces)
 
 -- the blocks of a descriptor's bytes
 unfoldable pub blocks_of : List ℕ → List Block

@@ -1,4 +1,4 @@
-pub mod Answering
-pub mod Completing
-pub mod Composing
+pub mod AnsweredLemmas
+pub mod OutcomeLemmas
+pub mod SourceParsingLemmas
 pub mod HandingOnLemmas

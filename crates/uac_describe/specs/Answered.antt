@@ -10,7 +10,7 @@ use Rattle.uac_describe.specs.declared.description.Description.{Description}
 use Rattle.uac_describe.specs.declared.status.Status.{Status}
 use Rattle.uac_describe.specs.Closing.{Closes, HasEnded}
 use Rattle.uac_describe.specs.Outcome.{IsOutcomeOf, End, IsTopologyVerdict, Outcome, no_memory, refusal, unsound}
-use Rattle.uac_describe.specs.SourceReading.{StopsThere}
+use Rattle.uac_describe.specs.SourceParsing.{StopsThere}
 
 -- The bytes that were taken, why no more were, and what is said of them; or memory was wanted.
 pub record IsDescribed (description : Description) (left left' : Option (List ℕ)) (reads reads' : ℕ) (written written' : Option (List ℕ))

@@ -1,7 +1,7 @@
 -- What is said of a descriptor, and how a call of the program ends.
 -- What the program's theorem says: to be read and believed.
 pub mod Outcome
-pub mod SourceReading
+pub mod SourceParsing
 pub mod Closing
 pub mod SettleLines
 -- What the contracts below them cite: steps of the code, no part of what is promised.

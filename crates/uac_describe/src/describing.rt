@@ -13,7 +13,7 @@ ghost use Rattle.uac_describe.specs.Outcome.{no_memory, sound, text_of};
 use crate::closing::close;
 use crate::description::Description;
 use crate::lines::{NO_MEMORY, READ_FAULT, refusal_line, sound_line, unsound_line};
-use crate::reading::{SourceEnd, read_descriptor};
+use crate::parsing::{SourceEnd, read_descriptor};
 use crate::status::Status;
 use std::alloc::Global;
 use uac_configuration::bytes_of;

@@ -10,7 +10,7 @@ mod description;
 /// The lines that are printed.
 mod lines;
 /// Reading a descriptor from a source.
-mod reading;
+mod parsing;
 /// How long streams take to come home.
 mod settling;
 /// How a run ends.

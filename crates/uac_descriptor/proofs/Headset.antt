@@ -3,7 +3,7 @@ use Rattle.std.proofs.Common.{◌≡◌, [], ◌∷◌, refl}
 use Rattle.std.specs.Prelude.{Some, None}
 use Rattle.uac_descriptor.specs.LayoutRows.{row_in, row_of}
 use Rattle.uac_descriptor.specs.declared.context.Context.TheVariants.{DeviceFront, ControlInterface, StreamingInterface, ForeignInterface}
-use Rattle.uac_descriptor.specs.BlockReading.{block_of, has_length, fields, is_whole}
+use Rattle.uac_descriptor.specs.BlockParsing.{block_of, has_length, fields, is_whole}
 use Rattle.uac_descriptor.specs.declared.block.Block.TheVariants as variant
 
 configuration_read : block_of DeviceFront (9 ∷ 2 ∷ 19 ∷ 1 ∷ 4 ∷ 1 ∷ 0 ∷ 128 ∷ 50 ∷ [])

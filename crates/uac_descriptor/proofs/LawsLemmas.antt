@@ -13,8 +13,8 @@ use Rattle.uac_descriptor.specs.Laws.{IsKeptBlock, HasSpelling, OneSpelling, Spe
 use Rattle.uac_descriptor.specs.Standard.{CONFIGURATION, INTERFACE, INTERFACE_ASSOCIATION, AS_GENERAL, FORMAT_TYPE}
 use Rattle.uac_descriptor.specs.declared.block.Block.{Block}
 use Rattle.uac_descriptor.specs.declared.block.Block.TheVariants as variant
-use Rattle.uac_descriptor.proofs.ReadBack.{block_of-Spells, length-words}
-use Rattle.uac_descriptor.proofs.SpeltAsRead.{Spells-block_of}
+use Rattle.uac_descriptor.proofs.SpellingLemmas.{block_of-Spells, length-words}
+use Rattle.uac_descriptor.proofs.BlockParsingLemmas.{Spells-block_of}
 
 -- in one context no bytes are spelt by two blocks
 pub one_spelling_lem : OneSpelling

@@ -1,6 +1,6 @@
 -- That a block's spelling is read back as the block, and that what is read spells the block.
-pub mod ReadBack
-pub mod SpeltAsRead
+pub mod SpellingLemmas
+pub mod BlockParsingLemmas
 pub mod LawsLemmas
 pub mod EndpointsLemmas
 mod Headset

@@ -3,7 +3,7 @@ use Rattle.std.specs.Prelude.{◌≡◌, ℕ, ◌≤◌, List, length, Some}
 use Rattle.uac_descriptor.specs.Layout.{IsSelector, IsMixer, IsFeature, IsEffect, IsExtra, IsForeign}
 use Rattle.uac_descriptor.specs.Spelling.{spelling}
 use Rattle.uac_descriptor.specs.LayoutRows.{Context, Spells}
-use Rattle.uac_descriptor.specs.BlockReading.{AreBytes, block_of}
+use Rattle.uac_descriptor.specs.BlockParsing.{AreBytes, block_of}
 use Rattle.uac_descriptor.specs.declared.block.Block.{Block}
 use Rattle.uac_descriptor.specs.declared.block.Block.TheVariants as variant
 

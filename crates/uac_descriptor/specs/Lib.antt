@@ -7,7 +7,7 @@ pub mod Spelling
 pub mod LayoutRows
 pub mod Endpoints
 pub mod Classes
-pub mod BlockReading
+pub mod BlockParsing
 pub mod Kinds
 pub mod BlockTurns
 -- What the laws say besides.

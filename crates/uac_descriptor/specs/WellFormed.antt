@@ -11,25 +11,25 @@ use Rattle.uac_descriptor.specs.declared.block.Block.TheVariants as variant
 
 -- what chooses or mixes has a pin, a format's numbers are in range, and an isochronous endpoint of an audio interface is one of high speed
 abbrev pub IsWellFormed : Context → block.Block → Type 0
-IsWellFormed place (variant.Configuration _) = Unit {0}
-IsWellFormed place (variant.Association _) = Unit {0}
-IsWellFormed place (variant.Interface _) = Unit {0}
-IsWellFormed place (variant.Endpoint e) = IsTrue (is_audio place) → IsTrue (is_isochronous e) → IsHighSpeed e
-IsWellFormed place (variant.Header _) = Unit {0}
-IsWellFormed place (variant.InputTerminal _) = Unit {0}
-IsWellFormed place (variant.OutputTerminal _) = Unit {0}
-IsWellFormed place (variant.Mixer m) = length m.sources ≢ 0
-IsWellFormed place (variant.Selector s) = length s.sources ≢ 0
-IsWellFormed place (variant.Feature _) = Unit {0}
-IsWellFormed place (variant.Effect _) = Unit {0}
-IsWellFormed place (variant.ClockSource _) = Unit {0}
-IsWellFormed place (variant.ClockSelector c) = length c.sources ≢ 0
-IsWellFormed place (variant.ClockMultiplier _) = Unit {0}
-IsWellFormed place (variant.General _) = Unit {0}
-IsWellFormed place (variant.TypeOne t) = IsTypeOneFormat t
-IsWellFormed place (variant.Extra _) = Unit {0}
-IsWellFormed place (variant.ClassEndpoint _) = Unit {0}
-IsWellFormed place (variant.Foreign _) = Unit {0}
+IsWellFormed context (variant.Configuration _) = Unit {0}
+IsWellFormed context (variant.Association _) = Unit {0}
+IsWellFormed context (variant.Interface _) = Unit {0}
+IsWellFormed context (variant.Endpoint e) = IsTrue (is_audio context) → IsTrue (is_isochronous e) → IsHighSpeed e
+IsWellFormed context (variant.Header _) = Unit {0}
+IsWellFormed context (variant.InputTerminal _) = Unit {0}
+IsWellFormed context (variant.OutputTerminal _) = Unit {0}
+IsWellFormed context (variant.Mixer m) = length m.sources ≢ 0
+IsWellFormed context (variant.Selector s) = length s.sources ≢ 0
+IsWellFormed context (variant.Feature _) = Unit {0}
+IsWellFormed context (variant.Effect _) = Unit {0}
+IsWellFormed context (variant.ClockSource _) = Unit {0}
+IsWellFormed context (variant.ClockSelector c) = length c.sources ≢ 0
+IsWellFormed context (variant.ClockMultiplier _) = Unit {0}
+IsWellFormed context (variant.General _) = Unit {0}
+IsWellFormed context (variant.TypeOne t) = IsTypeOneFormat t
+IsWellFormed context (variant.Extra _) = Unit {0}
+IsWellFormed context (variant.ClassEndpoint _) = Unit {0}
+IsWellFormed context (variant.Foreign _) = Unit {0}
 
 -- the blocks are so, the control interface comes first, and the settings of each streaming interface are numbered 0, 1, .. in
 -- turn, under a number of its own

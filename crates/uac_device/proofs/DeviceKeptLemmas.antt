@@ -160,7 +160,7 @@ found_passes domain (y ∷ ys) x e = from (y.domain == domain) refl e (found_pas
 passing_ticks : (domain : ℕ) (values : Option Nominal) (x : DomainClock) → (x.domain == domain) ≡ true → ticks_where domain values x ≡ Some ((x.phase + step_by values x.deviation) / 65536)
 passing_ticks domain values x same = ap (λ (b : Bool). if b then Some ((x.phase + step_by values x.deviation) / 65536) else None) same
 
--- the ticks of the first clock up to a place
+-- the ticks of the first clock up to an index
 pub first_more : (domain : ℕ) (values : Option Nominal) (old : List DomainClock) (at : ℕ) (c : DomainClock) (first more one : Option ℕ) → at < length old
     → one ≡ ticks_where domain values (get_or old at c)
     → first ≡ option_and_then (ticks_where domain values) (find (λ c. c.domain == domain) (take at old)) → more ≡ option_or first one

@@ -17,7 +17,7 @@ use Rattle.uac_alt.specs.AltSettings.{with_setting}
 use Rattle.uac_graph.specs.GraphControls.{controls_in}
 use Rattle.uac_graph.specs.Jobs.{AreSameBut}
 use Rattle.uac_request.specs.Requests.{RequestState, Owner, after_request, controls_set, first_broken, request_state, high, key_named, left_by, owner_of, sent_value, sets_cur, sets_interface}
-use Rattle.uac_request.proofs.Staying.{SameClocks, id_of_named, same_rate}
+use Rattle.uac_request.proofs.KeyedLemmas.{SameClocks, id_of_named, same_rate}
 use Rattle.uac_request.specs.declared.setup.Setup.{Setup}
 use Rattle.uac_device.specs.Following.{IsDerived, IsLeftBy, IsDomainRate, renewed_rate}
 use Rattle.uac_device.specs.declared.derived.Derived.{Derived}

@@ -23,16 +23,16 @@ use Rattle.uac_topology_rules.specs.Clusters.{cluster_of, with_own_clusters, is_
 use Rattle.uac_topology_rules.specs.RuleFaults.{rule_fault, broken_names}
 use Rattle.uac_topology_rules.specs.Links.{is_terminal}
 use Rattle.uac_topology_rules.specs.Rules.{breaks_u1, is_output, is_usb, is_usb_terminal}
-use Rattle.uac_topology_rules.specs.Table.{at, nothing, place_of, with_cluster}
-use Rattle.uac_topology_rules.proofs.FirstPlace.{breaks_none}
-use Rattle.uac_topology_rules.proofs.Found.{position-below}
-use Rattle.uac_topology_rules.proofs.Sound.{has_names, or_none}
+use Rattle.uac_topology_rules.specs.Table.{at, nothing, index_of, with_cluster}
+use Rattle.uac_topology_rules.proofs.RuleFaultsLemmas.{breaks_none}
+use Rattle.uac_topology_rules.proofs.ListFindLemmas.{position-below}
+use Rattle.uac_topology_rules.proofs.LinksLemmas.{has_names, or_none}
 use Rattle.uac_topology.specs.Function.{FunctionFields}
 use Rattle.uac_topology.specs.Topology.{first_fault_of, IsSound, IsSoundFunction, streams_in}
-use Rattle.uac_topology.proofs.Clustered.{with_own_clusters-at, length-with_own_clusters, same_place}
-use Rattle.uac_topology.proofs.SettingLinks.{right_at, usb_there}
-use Rattle.uac_topology.proofs.Ranges.{All-filter_map, not_false}
-use Rattle.uac_topology.proofs.SoundRules.{links_within}
+use Rattle.uac_topology.proofs.ClustersLemmas.{with_own_clusters-at, length-with_own_clusters, same_index}
+use Rattle.uac_topology.proofs.FunctionKeptLinkLemmas.{right_at, usb_there}
+use Rattle.uac_topology.proofs.FunctionKeptRangeLemmas.{All-filter_map, not_false}
+use Rattle.uac_topology.proofs.TopologyRuleLemmas.{links_within}
 use Rattle.uac_graph.specs.Meaning.{entity}
 use Rattle.uac_device.specs.DeviceWorld.{is_jack}
 use Rattle.uac_device.specs.Linked.{AreLinked}
@@ -78,7 +78,7 @@ other_end kind.Effect t i = absurd (cc)
 
 -- the link of an interface is to a terminal of the bus, or it has none
 abbrev Links : List Entity → ℕ → Type 0
-Links es id = (id ≡ 0) ⊎ ((place_of es id < length es) × (is_usb_terminal (at es (place_of es id)) ≡ true))
+Links es id = (id ≡ 0) ⊎ ((index_of es id < length es) × (is_usb_terminal (at es (index_of es id)) ≡ true))
 
 links_to : (es : List Entity) (s : StreamInterface) → IsMade es s → list_any (λ l. not (is_usb es l && l == s.terminal)) (links_of s.settings) ≡ false
     → Links es s.terminal
@@ -92,26 +92,26 @@ links_to es s is right = by (links_of s.settings) is.first right
 
 module _ (es : List Entity) (above : (k : ℕ) → k < length es → breaks_u1 es k ≡ false) where
   -- no entity has the id 0
-  none_zero : place_of es 0 ≡ length es
-  unfolding breaks_u1 place_of at
+  none_zero : index_of es 0 ≡ length es
+  unfolding breaks_u1 index_of at
   none_zero = position_or_len_is (λ (e : Entity). e.id == 0) es (length es) nothing (omega arith) (λ k below. above k below) (λ h. absurd (omega arith))
 
   named_zero : entity_by_id es 0 ≡ None
-  unfolding entity_by_id place_of
-  named_zero = find_at (λ (e : Entity). e.id == 0) es ∙ slice_get_past es (place_of es 0) (omega (arith, none_zero))
+  unfolding entity_by_id index_of
+  named_zero = find_at (λ (e : Entity). e.id == 0) es ∙ slice_get_past es (index_of es 0) (omega (arith, none_zero))
 
-  named_there : (id : ℕ) → place_of es id < length es → entity_by_id es id ≡ Some (at es (place_of es id))
-  unfolding entity_by_id place_of at
-  named_there id below = find_at (λ (e : Entity). e.id == id) es ∙ slice_get-get_or es (place_of es id) nothing below
+  named_there : (id : ℕ) → index_of es id < length es → entity_by_id es id ≡ Some (at es (index_of es id))
+  unfolding entity_by_id index_of at
+  named_there id below = find_at (λ (e : Entity). e.id == id) es ∙ slice_get-get_or es (index_of es id) nothing below
 
   entity_zero : entity (with_own_clusters es) 0 ≡ nothing
   unfolding entity at
   entity_zero =
-      get_or_past (with_own_clusters es) (place_of (with_own_clusters es) 0) nothing (omega (arith, same_place es 0, none_zero, length-with_own_clusters es))
+      get_or_past (with_own_clusters es) (index_of (with_own_clusters es) 0) nothing (omega (arith, same_index es 0, none_zero, length-with_own_clusters es))
 
-  entity_there : (id : ℕ) → place_of es id < length es → entity (with_own_clusters es) id ≡ with_cluster (at es (place_of es id)) (cluster_of es (place_of es id))
+  entity_there : (id : ℕ) → index_of es id < length es → entity (with_own_clusters es) id ≡ with_cluster (at es (index_of es id)) (cluster_of es (index_of es id))
   unfolding entity at
-  entity_there id below = ap (at (with_own_clusters es)) (same_place es id) ∙ with_own_clusters-at es (place_of es id) nothing below
+  entity_there id below = ap (at (with_own_clusters es)) (same_index es id) ∙ with_own_clusters-at es (index_of es id) nothing below
 
   module _ (s : StreamInterface) (is : IsMade es s) where
     goes_nowhere : s.terminal ≡ 0 → s.out ≡ false
@@ -119,7 +119,7 @@ module _ (es : List Entity) (above : (k : ℕ) → k < length es → breaks_u1 e
         is.goes ∙ ap (λ (id : ℕ). option_map_or is_input (option_map (λ (e : Entity). e.kind) (entity_by_id es id)) false) zero
         ∙ ap (λ (o : Option Entity). option_map_or is_input (option_map (λ (e : Entity). e.kind) o) false) named_zero
 
-    goes_there : place_of es s.terminal < length es → s.out ≡ is_input (at es (place_of es s.terminal)).kind
+    goes_there : index_of es s.terminal < length es → s.out ≡ is_input (at es (index_of es s.terminal)).kind
     goes_there below =
         is.goes ∙ ap (λ (o : Option Entity). option_map_or is_input (option_map (λ (e : Entity). e.kind) o) false) (named_there s.terminal below)
 
@@ -142,7 +142,7 @@ module _ (es : List Entity) (above : (k : ℕ) → k < length es → breaks_u1 e
     output (inr there) out some =
         let terminal = (and_parts _ _ there.1).0 in
         ap (λ (e : Entity). is_output e.kind) (entity_there s.terminal there.0)
-        ∙ other_end (at es (place_of es s.terminal)).kind terminal (sym (goes_there there.0) ∙ out)
+        ∙ other_end (at es (index_of es s.terminal)).kind terminal (sym (goes_there there.0) ∙ out)
 
     -- an interface that goes to the device has a link
     not_zero : s.out ≡ true → (s.terminal == 0) ≡ false
@@ -153,16 +153,16 @@ module _ (es : List Entity) (above : (k : ℕ) → k < length es → breaks_u1 e
         by false e = e
 
 -- the first that has a link, where no earlier one has
-first_at : (ss : List StreamInterface) (place terminal : ℕ) (d : StreamInterface) → place < length ss → (get_or ss place d).terminal ≡ terminal
-    → list_any (λ x. x.terminal == terminal) (take place ss) ≡ false → position (λ x. x.terminal == terminal) ss ≡ Some place
-first_at ss place terminal d below has none =
+first_at : (ss : List StreamInterface) (index terminal : ℕ) (d : StreamInterface) → index < length ss → (get_or ss index d).terminal ≡ terminal
+    → list_any (λ x. x.terminal == terminal) (take index ss) ≡ false → position (λ x. x.terminal == terminal) ss ≡ Some index
+first_at ss index terminal d below has none =
     let p : StreamInterface → Bool = λ x. x.terminal == terminal in
-    let first : position_or_len p ss ≡ place =
-    position_or_len_is p ss place d (omega arith)
+    let first : position_or_len p ss ≡ index =
+    position_or_len_is p ss index d (omega arith)
     (λ j before.
-    let early : j < length (take place ss) = omega (arith, length-take-le place ss) in
-    ap p (sym (get_or-take place ss j d before)) ∙ none_at p (take place ss) j d early none)
-    (λ _. eq-eqb (get_or ss place d).terminal terminal has) in
+    let early : j < length (take index ss) = omega (arith, length-take-le index ss) in
+    ap p (sym (get_or-take index ss j d before)) ∙ none_at p (take index ss) j d early none)
+    (λ _. eq-eqb (get_or ss index d).terminal terminal has) in
     position-below p ss (omega (arith, first, below)) ∙ ap (λ (k : ℕ). Some k) first
 
 -- ---- a function of such entities and interfaces

@@ -17,9 +17,9 @@ use Rattle.uac_device_streams.specs.DeviceStreams.{ports}
 use Rattle.uac_device_streams.specs.declared.device_stream.DeviceStream.{DeviceStream}
 use Rattle.uac_device.specs.Linked.{AreLinked}
 use Rattle.uac_device.specs.Stillness.{HasBegun, TickHasEnded, IsStill}
-use Rattle.uac_device.proofs.Played.{Rendered, tick_stands}
-use Rattle.uac_device.proofs.Streaming.{same_streams}
-use Rattle.uac_device.proofs.TickInputs.{met_here, ticked_stands}
+use Rattle.uac_device.proofs.DeviceWorldLemmas.{Rendered, tick_stands}
+use Rattle.uac_device.proofs.DeviceKeptStreamLemmas.{same_streams}
+use Rattle.uac_device.proofs.DeviceKeptTickLemmas.{met_here, ticked_stands}
 
 -- ---- where no interface runs a stream
 

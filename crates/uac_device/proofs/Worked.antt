@@ -7,7 +7,7 @@ use Rattle.uac_entities.specs.declared.entity.EntityKind.TheVariants as kind
 use Rattle.uac_descriptor.specs.Standard.{USB_STREAMING}
 use Rattle.uac_entities.specs.declared.stream.StreamInterface.{StreamInterface}
 use Rattle.uac_topology_rules.specs.Links.{signal_sources}
-use Rattle.uac_topology_rules.specs.Table.{at, place_of}
+use Rattle.uac_topology_rules.specs.Table.{at, index_of}
 use Rattle.uac_topology.specs.Function.{FunctionFields}
 use Rattle.uac_clock.specs.Nominal.{nominal_of, values_of}
 use Rattle.uac_entities.specs.EntityInterfaces.{entity_by_id}
@@ -92,48 +92,48 @@ targets = (refl, refl, refl)
 -- bus gives what it gave last
 gives : (input_of 1 (world half one_put) 2 ≡ pos 6 ∷ []) × (input_of 1 (world priming one_put) 2 ≡ pos 0 ∷ []) × (input_of 1 (world half one_put) 5 ≡ pos 7 ∷ [])
     × (input_of 9 (world half one_put) 2 ≡ pos 7 ∷ [])
-unfolding input_of streamed_frame world half priming function entities linked entity at place_of
+unfolding input_of streamed_frame world half priming function entities linked entity at index_of
 gives = (refl, refl, refl, refl)
 
 -- a tick of the domain: the jack plays the stream's frame, which the terminal of the bus gave, and the other stream has what its jack gave
 plays : ((after_tick 1 (world half one_put)).played 4 ≡ pos 6 ∷ []) × ((after_tick 1 (world half one_put)).ins 2 ≡ Some (record one_put { made = (pos 9 ∷ []) ∷ (pos 7 ∷ []) ∷ [] }))
     × ((after_tick 1 (world half one_put)).given 2 ≡ pos 6 ∷ [])
-unfolding after_tick input_of streamed_frame world half one_put function entities linked entity at place_of meaning samples samples_by frame_of signal_sources after_putting
+unfolding after_tick input_of streamed_frame world half one_put function entities linked entity at index_of meaning samples samples_by frame_of signal_sources after_putting
 plays = (refl, refl, refl)
 
 -- then its ring is empty: the next tick finds it so and plays silence, and it primes again
 plays_silence : (after_tick 1 (after_tick 1 (world half one_put))).played 4 ≡ pos 0 ∷ []
-unfolding after_tick input_of streamed_frame world half one_put function entities linked entity at place_of meaning samples samples_by frame_of signal_sources after_taking
+unfolding after_tick input_of streamed_frame world half one_put function entities linked entity at index_of meaning samples samples_by frame_of signal_sources after_taking
 plays_silence = refl
 
 -- a terminal whose interface runs no stream gives silence, and meets nothing
 at_rest : (input_of 1 (record (world half one_put) { outs = λ n. None }) 2 ≡ pos 0 ∷ []) × (met_of 1 (record (world half one_put) { outs = λ n. None; ins = λ n. None }) ≡ record { under = 0; over = 0 })
-unfolding input_of streamed_frame met_of bits_of world function entities linked entity at place_of
+unfolding input_of streamed_frame met_of bits_of world function entities linked entity at index_of
 at_rest = (refl, refl)
 
 -- in a microframe of its domain a stream counts the ticks, here six at 48,000 Hz; in another's it doesn't
 counts : ((after_advance 1 clocked).outs 1 ≡ Some (record half { ticks = 6 })) × ((after_advance 9 clocked).outs 1 ≡ Some half)
-unfolding after_advance clocked next_ticks step_in rate_of rate_within rate_step source_rate entity_by_id value_of nominal_of values_of world half function entities linked entity at place_of
+unfolding after_advance clocked next_ticks step_in rate_of rate_within rate_step source_rate entity_by_id value_of nominal_of values_of world half function entities linked entity at index_of
 counts = (refl, refl)
 
 runs_dry : (met_of 1 (after_tick 1 (world half one_put)) ≡ record { under = 1; over = 0 }) × ((after_tick 1 (after_tick 1 (world half one_put))).outs 1
     ≡ Some (record half { arrived = []; taken = 0; target = None }))
-unfolding met_of bits_of after_tick world half one_put function entities linked entity at place_of after_taking after_putting
+unfolding met_of bits_of after_tick world half one_put function entities linked entity at index_of after_taking after_putting
 runs_dry = (refl, refl)
 
 -- before that it meets nothing, and a priming stream never does
 met_none : (met_of 1 (world half one_put) ≡ record { under = 0; over = 0 }) × (met_of 1 (world (record priming { arrived = [] }) one_put) ≡ record { under = 0; over = 0 })
-unfolding met_of bits_of world half priming one_put function entities linked entity at place_of
+unfolding met_of bits_of world half priming one_put function entities linked entity at index_of
 met_none = (refl, refl)
 
 -- the second interface's ring is full: nothing is put
 met_full : (met_of 1 (world half full) ≡ record { under = 0; over = 2 }) × ((after_tick 1 (world half full)).ins 2 ≡ Some full)
-unfolding met_of bits_of after_tick world half full function entities linked entity at place_of after_putting
+unfolding met_of bits_of after_tick world half full function entities linked entity at index_of after_putting
 met_full = (refl, refl)
 
 -- a tick of another domain leaves both
 elsewhere : (met_of 9 (world half full) ≡ record { under = 0; over = 0 }) × ((after_tick 9 (world half full)).outs 1 ≡ Some half) × ((after_tick 9 (world half full)).ins 2 ≡ Some full)
-unfolding met_of bits_of after_tick world half full function entities linked entity at place_of
+unfolding met_of bits_of after_tick world half full function entities linked entity at index_of
 elsewhere = (refl, refl, refl)
 
 -- the samples 1 and -2

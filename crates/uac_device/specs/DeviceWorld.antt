@@ -30,8 +30,8 @@ use Rattle.uac_flow.specs.FlowStreams.{feedback_of, is_dry, is_full, next_taken,
 use Rattle.uac_flow.specs.Flows.{ZerosFit}
 use Rattle.uac_flow.specs.declared.arrival.Arrival.{Arrival}
 use Rattle.uac_flow.specs.declared.arrival.Arrival.TheVariants as arrival
-use Rattle.uac_device_streams.specs.InterfaceStreams.{bits_of, changed_at, changed_where, either_due, in_from, level_in, out_from}
-use Rattle.uac_device_streams.specs.InterfaceStreams.{replaced_at}
+use Rattle.uac_device_streams.specs.InterfaceStreams.{bits_of, streams_changed_at, changed_where, either_due, in_from, level_in, out_from}
+use Rattle.uac_device_streams.specs.InterfaceStreams.{streams_replaced_at}
 use Rattle.uac_device_streams.specs.InterfaceStreams.{runs_either}
 use Rattle.uac_device_streams.specs.declared.ticking.Ticked.{Ticked}
 
@@ -208,10 +208,10 @@ played_at w id = if is_output_jack (entity_in w id) then Some (w.played id) else
 
 -- the stream to the device, or from it, of an interface changes
 abbrev pub at_out : ℕ → (OutStream → OutStream) → DeviceWorld → DeviceWorld
-at_out interface change w = record w { outs = changed_at interface change w.outs }
+at_out interface change w = record w { outs = streams_changed_at interface change w.outs }
 
 abbrev pub at_in : ℕ → (InStream → InStream) → DeviceWorld → DeviceWorld
-at_in interface change w = record w { ins = changed_at interface change w.ins }
+at_in interface change w = record w { ins = streams_changed_at interface change w.ins }
 
 -- a packet comes to the device, or is lost
 unfoldable pub after_receiving : ℕ → Option (List ℕ) → DeviceWorld → DeviceWorld
@@ -264,8 +264,8 @@ stream_in_setting function controls interface setting =
 unfoldable pub after_restart : ℕ → Option StreamFields → DeviceWorld → DeviceWorld
 after_restart interface begun w =
     record w {
-      outs = replaced_at interface (option_and_then out_from begun) w.outs;
-      ins = replaced_at interface (option_and_then in_from begun) w.ins;
+      outs = streams_replaced_at interface (option_and_then out_from begun) w.outs;
+      ins = streams_replaced_at interface (option_and_then in_from begun) w.ins;
     }
 
 -- a control request: it changes what its answer says, and a setting that it sets starts the interface's stream anew, or stops it

@@ -24,8 +24,8 @@ pub record AreLinked (function : FunctionFields) : Type 0 where
   -- one that goes to the device links to an input terminal of the bus, and is the first that does
   pub inputs : All (λ s. s.out ≡ true → IsBusInput (entity function.entities s.terminal)) function.streams
   pub alone :
-      (place : ℕ) (d : StreamInterface) → place < length function.streams → (get_or function.streams place d).out ≡ true
-      → position (λ s. s.terminal == (get_or function.streams place d).terminal) function.streams ≡ Some place
+      (index : ℕ) (d : StreamInterface) → index < length function.streams → (get_or function.streams index d).out ≡ true
+      → position (λ s. s.terminal == (get_or function.streams index d).terminal) function.streams ≡ Some index
   -- another links to an output terminal, or to nothing that has channels
   pub outputs : All (λ s. s.out ≡ false → IsOutput (entity function.entities s.terminal)) function.streams
 

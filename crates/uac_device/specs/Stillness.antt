@@ -4,7 +4,7 @@ use Rattle.std.specs.List.{All}
 use Rattle.uac_graph.specs.Wiring.{Frames, frame_on, silence}
 use Rattle.uac_flow.specs.FlowStreams.{InStream, OutStream, after_putting, after_taking}
 use Rattle.uac_device_streams.specs.InterfaceStreams.{NoneRuns, changed_where}
-use Rattle.uac_device_streams.specs.DeviceStreams.{DeviceStreamsStand, given_by, met_by, ports}
+use Rattle.uac_device_streams.specs.DeviceStreams.{DeviceStreamsStand, frame_given_by, met_by, ports}
 use Rattle.uac_device_streams.specs.declared.device_stream.DeviceStream.{DeviceStream}
 use Rattle.uac_device_streams.specs.declared.ticking.Ticked.{Ticked}
 use Rattle.uac_device.specs.DeviceWorld.{DeviceWorld, entity_in, is_streamed}
@@ -25,7 +25,7 @@ pub record HasBegun (domain : ℕ) (old new : List DeviceStream) (before after :
       → DeviceStreamsStand new (changed_where on (λ interface. after_taking) outs) ins
   pub frames :
       (outs : ℕ → Option OutStream) (ins : ℕ → Option InStream) → DeviceStreamsStand old outs ins
-      → (id : ℕ) → frame_on after id ≡ given_by domain id outs (ports old) (frame_on before id)
+      → (id : ℕ) → frame_on after id ≡ frame_given_by domain id outs (ports old) (frame_on before id)
 
 -- a tick ended: the streams from the terminals of the domain have the frames that these played
 pub record TickHasEnded (domain : ℕ) (old new : List DeviceStream) (wires : Frames) : Type 0 where

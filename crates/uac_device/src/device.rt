@@ -341,7 +341,7 @@ impl Device {
         ensures { result ≡ is_output_jack (entity self.now.function.entities id) }
     {
         match self.function.find(id) {
-            Some(place) => is_output_jack(&self.function.entities()[place]),
+            Some(index) => is_output_jack(&self.function.entities()[index]),
             None => false,
         }
     }

@@ -3,7 +3,7 @@ ghost use Rattle.std.specs.Prelude.{◌≡◌, ◌≤◌, ℕ, true, false, leng
 ghost use Rattle.std.specs.List.{All};
 ghost use Rattle.std.specs.Option.{option_map};
 ghost use Rattle.uac_graph.specs.Wiring.{frame_on};
-ghost use Rattle.uac_device_streams.specs.DeviceStreams.{WiredIn, WiredOut, ports};
+ghost use Rattle.uac_device_streams.specs.DeviceStreams.{IsWiredIn, IsWiredOut, ports};
 ghost use Rattle.uac_device.specs.Stillness.{HasBegun, TickHasEnded};
 
 use uac_device_streams::{DeviceStreams, Ticked};
@@ -17,7 +17,7 @@ pub(crate) fn begin_unless(
     wires: &mut Wires,
 ) -> Ticked
     requires few { length device_streams.old ≤ 8 }
-    requires wired { All (WiredIn wires.old) (ports device_streams.old) }
+    requires wired { All (IsWiredIn wires.old) (ports device_streams.old) }
     ensures begun { still ≡ false → HasBegun domain device_streams.old device_streams.new wires.old wires.new result }
     ensures rests { still ≡ true
         → (device_streams.new ≡ device_streams.old) × (wires.new ≡ wires.old) × (result ≡ record { under = 0; over = 0 }) }
@@ -32,7 +32,7 @@ pub(crate) fn begin_unless(
 
 /// A tick of a domain ends in the device's streams. Where the device is still nothing changes.
 pub(crate) fn put_unless(still: bool, device_streams: &mut DeviceStreams, domain: u8, wires: &Wires)
-    requires { All (WiredOut wires.now) (ports device_streams.old) }
+    requires { All (IsWiredOut wires.now) (ports device_streams.old) }
     ensures ended { still ≡ false → TickHasEnded domain device_streams.old device_streams.new wires.now }
     ensures rests { still ≡ true → device_streams.new ≡ device_streams.old }
     ensures ports { ports device_streams.new ≡ ports device_streams.old }

@@ -11,14 +11,14 @@ use Rattle.uac_device_streams.specs.declared.device_stream.Flow.TheVariants as f
 use Rattle.uac_device_streams.specs.InterfaceStreams.{changed_where}
 use Rattle.uac_device_streams.specs.declared.device_stream.Port.{Port}
 use Rattle.uac_device_streams.specs.declared.device_stream.DeviceStream.{DeviceStream}
-use Rattle.uac_device_streams.specs.DeviceStreams.{IsFlow, IsDeviceStream, FlowStands, DeviceStreamStands, DeviceStreamsStand, Changes, counted_on, stream_place, ports, put_on, taken_on}
-use Rattle.uac_device_streams.proofs.DeviceStreamsLemmas.{same_places}
+use Rattle.uac_device_streams.specs.DeviceStreams.{IsFlow, IsDeviceStream, FlowStands, DeviceStreamStands, DeviceStreamsStand, Changes, stream_counted_on, device_stream_index, ports, stream_put_on, stream_taken_on}
+use Rattle.uac_device_streams.proofs.DeviceStreamsLemmas.{same_indices}
 
 -- what an event makes of streams, by the interface's port
 abbrev pub Change : Type 0 → Type 0
 Change S = Port → Option S → Option S
 
--- the device streams below a place have changed, and the others are as they were
+-- the device streams below an index have changed, and the others are as they were
 pub record IsTurnedTo (outs : Port → Option OutStream → Option OutStream) (ins : Port → Option InStream → Option InStream) (now old : List DeviceStream) (at : ℕ) : Type 0 where
   pub below : (k : ℕ) (d : DeviceStream) → k < at → k < length old → Changes (outs (get_or old k d).port) (ins (get_or old k d).port) (get_or old k d) (get_or now k d)
   pub sound : (k : ℕ) (d : DeviceStream) → k < at → k < length old → IsDeviceStream (get_or now k d)
@@ -86,7 +86,7 @@ turned_more outs ins now old at x l d inside turned read turns sound = record {
       | inr other ↦ subst IsDeviceStream (sym (get_or-set_other now at k x e other)) (turned.sound k e (omega (arith, less, other)) within)
     ]
 
--- lists that give the same at each place
+-- lists that give the same at each index
 map_same_at : {X Y : Type 0} (f : X → Y) (xs ys : List X) → length xs ≡ length ys → ((k : ℕ) (d : X) → k < length ys → f (get_or xs k d) ≡ f (get_or ys k d)) → map f xs ≡ map f ys
 map_same_at f [] [] sized same = refl
 map_same_at f [] (y ∷ ys) sized same = absurd (omega (arith, sized))
@@ -126,9 +126,9 @@ keeps_turned outs ins now old at os os' is is' turned past sound keeps changes n
         (subst (λ (o : Option OutStream). DeviceStreamStands (get_or now k d) o (is' l.port.interface)) (sym change.0)
         (subst (λ (i : Option InStream). DeviceStreamStands (get_or now k d) (outs l.port (os l.port.interface)) i) (sym change.1) new))
 
-    none : (n : ℕ) → stream_place now n ≡ None → (os' n ≡ None) × (is' n ≡ None)
+    none : (n : ℕ) → device_stream_index now n ≡ None → (os' n ≡ None) × (is' n ≡ None)
     none n gone =
-        let was = keeps.none n (sym (same_places old now n (ports_turned outs ins now old at turned past)) ∙ gone) in
+        let was = keeps.none n (sym (same_indices old now n (ports_turned outs ins now old at turned past)) ∙ gone) in
         (none_out n was.0, none_in n was.1)
 
 -- the port of a device stream is among the ports
@@ -147,11 +147,11 @@ changed_as a b change o same = ap (λ (t : Bool). option_map (λ s. if t then ch
 
 -- ---- the three events of ticks
 
-pub counted_keeps : (domain ticks : ℕ) (now old : List DeviceStream) (at : ℕ) → IsTurnedTo (counted_on domain ticks) (λ p in_. in_) now old at → length now ≤ at → All IsDeviceStream old
+pub counted_keeps : (domain ticks : ℕ) (now old : List DeviceStream) (at : ℕ) → IsTurnedTo (stream_counted_on domain ticks) (λ p in_. in_) now old at → length now ≤ at → All IsDeviceStream old
     → (on : ℕ → Bool) (outs : ℕ → Option OutStream) (ins : ℕ → Option InStream) → All (λ p. on p.interface ≡ (p.domain == domain)) (ports old) → DeviceStreamsStand old outs ins
     → DeviceStreamsStand now (changed_where on (λ interface. after_ticks ticks) outs) ins
 counted_keeps domain ticks now old at turned past sound on outs ins all keeps =
-    keeps_turned (counted_on domain ticks) (λ p in_. in_) now old at outs (changed_where on (λ interface. after_ticks ticks) outs) ins ins turned past sound keeps
+    keeps_turned (stream_counted_on domain ticks) (λ p in_. in_) now old at outs (changed_where on (λ interface. after_ticks ticks) outs) ins ins turned past sound keeps
     (λ l k below is right kept. (
       changed_as (on l.port.interface) (l.port.domain == domain) (after_ticks ticks) (outs l.port.interface)
           (port_holds (λ p. on p.interface ≡ (p.domain == domain)) old l k all below is),
@@ -159,11 +159,11 @@ counted_keeps domain ticks now old at turned past sound on outs ins all keeps =
     ))
     (λ n none. changed_none (on n) (after_ticks ticks) (outs n) none) (λ n none. none)
 
-pub taken_keeps : (domain : ℕ) (now old : List DeviceStream) (at : ℕ) → IsTurnedTo (taken_on domain) (λ p in_. in_) now old at → length now ≤ at → All IsDeviceStream old
+pub taken_keeps : (domain : ℕ) (now old : List DeviceStream) (at : ℕ) → IsTurnedTo (stream_taken_on domain) (λ p in_. in_) now old at → length now ≤ at → All IsDeviceStream old
     → (on : ℕ → Bool) (outs : ℕ → Option OutStream) (ins : ℕ → Option InStream) → All (λ p. on p.interface ≡ (p.domain == domain)) (ports old) → DeviceStreamsStand old outs ins
     → DeviceStreamsStand now (changed_where on (λ interface. after_taking) outs) ins
 taken_keeps domain now old at turned past sound on outs ins all keeps =
-    keeps_turned (taken_on domain) (λ p in_. in_) now old at outs (changed_where on (λ interface. after_taking) outs) ins ins turned past sound keeps
+    keeps_turned (stream_taken_on domain) (λ p in_. in_) now old at outs (changed_where on (λ interface. after_taking) outs) ins ins turned past sound keeps
     (λ l k below is right kept. (
       changed_as (on l.port.interface) (l.port.domain == domain) after_taking (outs l.port.interface)
           (port_holds (λ p. on p.interface ≡ (p.domain == domain)) old l k all below is),
@@ -174,30 +174,30 @@ taken_keeps domain now old at turned past sound on outs ins all keeps =
 -- the frame on a terminal's wire is the one that it played
 put_same : (domain : ℕ) (wires : Frames) (on : Bool) (frame : List ℤ) (l : DeviceStream) (out : Option OutStream) (in_ : Option InStream) → IsDeviceStream l → DeviceStreamStands l out in_
     → on ≡ (l.port.domain == domain) → (l.port.out ≡ false → 1 ≤ l.port.channels → frame_on wires l.port.terminal ≡ Some frame)
-    → option_map (λ i. if on then after_putting frame i else i) in_ ≡ put_on domain (samples_on wires l.port.terminal) l.port in_
+    → option_map (λ i. if on then after_putting frame i else i) in_ ≡ stream_put_on domain (samples_on wires l.port.terminal) l.port in_
 put_same domain wires on frame l out in_ sound keeps same there = along l.flow sound keeps
   where
-    nothing : in_ ≡ None → option_map (λ i. if on then after_putting frame i else i) in_ ≡ put_on domain (samples_on wires l.port.terminal) l.port in_
+    nothing : in_ ≡ None → option_map (λ i. if on then after_putting frame i else i) in_ ≡ stream_put_on domain (samples_on wires l.port.terminal) l.port in_
     nothing none =
         ap (option_map (λ (i : InStream). if on then after_putting frame i else i)) none
-        ∙ sym (ap (put_on domain (samples_on wires l.port.terminal) l.port) none)
+        ∙ sym (ap (stream_put_on domain (samples_on wires l.port.terminal) l.port) none)
 
     along : (f : Flow) → IsFlow l.port l.ring f → FlowStands l.ring f out in_
-        → option_map (λ i. if on then after_putting frame i else i) in_ ≡ put_on domain (samples_on wires l.port.terminal) l.port in_
+        → option_map (λ i. if on then after_putting frame i else i) in_ ≡ stream_put_on domain (samples_on wires l.port.terminal) l.port in_
     along flow.Idle right kept = nothing kept.1
     along (flow.Out f) right kept = nothing kept.2
     along (flow.In f) right kept =
         let on_wire : samples_on wires l.port.terminal ≡ frame = ap (λ (o : Option (List ℤ)). unwrap_or o []) (there right.1 right.3) in
         changed_as on (l.port.domain == domain) (after_putting frame) in_ same
-        ∙ ap (λ (x : List ℤ). put_on domain x l.port in_) (sym on_wire)
+        ∙ ap (λ (x : List ℤ). stream_put_on domain x l.port in_) (sym on_wire)
 
 pub put_keeps : (domain : ℕ) (wires : Frames) (now old : List DeviceStream) (at : ℕ)
-    → IsTurnedTo (λ p out. out) (λ p in_. put_on domain (samples_on wires p.terminal) p in_) now old at → length now ≤ at → All IsDeviceStream old
+    → IsTurnedTo (λ p out. out) (λ p in_. stream_put_on domain (samples_on wires p.terminal) p in_) now old at → length now ≤ at → All IsDeviceStream old
     → (on : ℕ → Bool) (played : ℕ → List ℤ) (outs : ℕ → Option OutStream) (ins : ℕ → Option InStream) → All (λ p. on p.interface ≡ (p.domain == domain)) (ports old)
     → All (λ p. p.out ≡ false → 1 ≤ p.channels → frame_on wires p.terminal ≡ Some (played p.interface)) (ports old) → DeviceStreamsStand old outs ins
     → DeviceStreamsStand now outs (changed_where on (λ interface. after_putting (played interface)) ins)
 put_keeps domain wires now old at turned past sound on played outs ins all there keeps =
-    keeps_turned (λ p out. out) (λ p in_. put_on domain (samples_on wires p.terminal) p in_) now old at outs outs ins
+    keeps_turned (λ p out. out) (λ p in_. stream_put_on domain (samples_on wires p.terminal) p in_) now old at outs outs ins
     (changed_where on (λ interface. after_putting (played interface)) ins) turned past sound keeps
     (λ l k below is right kept. (
       refl,

@@ -7,17 +7,17 @@ use Rattle.uac_graph.specs.Wiring.{Frames, frame_on, silence}
 use Rattle.uac_flow.specs.FlowStreams.{InStream, OutStream, is_dry, next_taken, out_level}
 use Rattle.uac_device_streams.specs.declared.device_stream.Port.{Port}
 use Rattle.uac_device_streams.specs.declared.device_stream.DeviceStream.{DeviceStream}
-use Rattle.uac_device_streams.specs.DeviceStreams.{DeviceStreamStands, DeviceStreamsStand, frame_given, given_by, gives_to, ports}
+use Rattle.uac_device_streams.specs.DeviceStreams.{DeviceStreamStands, DeviceStreamsStand, frame_given, frame_given_by, gives_to, ports}
 
 -- one device stream more
 pub given_more : (domain id : ℕ) (outs : ℕ → Option OutStream) (device_streams : List DeviceStream) (at : ℕ) (d : DeviceStream) (before : Option (List ℤ)) → at < length device_streams
-    → given_by domain id outs (ports (take (at + 1) device_streams)) before
+    → frame_given_by domain id outs (ports (take (at + 1) device_streams)) before
     ≡ (if gives_to domain id (get_or device_streams at d).port then Some (frame_given (outs (get_or device_streams at d).port.interface) (get_or device_streams at d).port)
-    else given_by domain id outs (ports (take at device_streams)) before)
+    else frame_given_by domain id outs (ports (take at device_streams)) before)
 given_more domain id outs device_streams at d before below =
     let longer : ports (take (at + 1) device_streams) ≡ ports (take at device_streams) ++ (get_or device_streams at d).port ∷ [] =
     ap ports (take_more device_streams at d below) ∙ map-append (λ (l : DeviceStream). l.port) (take at device_streams) (get_or device_streams at d ∷ []) in
-    ap (λ (ps : List Port). given_by domain id outs ps before) longer
+    ap (λ (ps : List Port). frame_given_by domain id outs ps before) longer
     ∙ fold-append (λ frame p. if gives_to domain id p then Some (frame_given (outs p.interface) p) else frame) before (ports (take at device_streams)) ((get_or device_streams at d).port ∷ [])
 
 -- the frames on the wires after one device stream more
@@ -25,8 +25,8 @@ pub frames_more : (domain : ℕ) (device_streams : List DeviceStream) (at : ℕ)
     → at < length device_streams → l ≡ get_or device_streams at d → DeviceStreamsStand device_streams outs ins
     → ((out : Option OutStream) (in_ : Option InStream) → DeviceStreamStands l out in_
     → (id : ℕ) → frame_on after id ≡ (if gives_to domain id l.port then Some (frame_given out l.port) else frame_on before id))
-    → frame_on before id ≡ given_by domain id outs (ports (take at device_streams)) (frame_on first id)
-    → frame_on after id ≡ given_by domain id outs (ports (take (at + 1) device_streams)) (frame_on first id)
+    → frame_on before id ≡ frame_given_by domain id outs (ports (take at device_streams)) (frame_on first id)
+    → frame_on after id ≡ frame_given_by domain id outs (ports (take (at + 1) device_streams)) (frame_on first id)
 frames_more domain device_streams at d l first before after outs ins id below read keeps gives so_far =
     let n = l.port.interface in
     let kept : DeviceStreamStands l (outs n) (ins n) =
@@ -34,12 +34,12 @@ frames_more domain device_streams at d l first before after outs ins id below re
     gives (outs n) (ins n) kept id
     ∙ ap (λ (o : Option (List ℤ)). if gives_to domain id l.port then Some (frame_given (outs n) l.port) else o) so_far
     ∙ ap (λ (m : DeviceStream). if gives_to domain id m.port then Some (frame_given (outs m.port.interface) m.port)
-    else given_by domain id outs (ports (take at device_streams)) (frame_on first id)) read
+    else frame_given_by domain id outs (ports (take at device_streams)) (frame_on first id)) read
     ∙ sym (given_more domain id outs device_streams at d (frame_on first id) below)
 
 pub frames_all : (domain id : ℕ) (outs : ℕ → Option OutStream) (device_streams : List DeviceStream) (at : ℕ) (before : Option (List ℤ)) → length device_streams ≤ at
-    → given_by domain id outs (ports (take at device_streams)) before ≡ given_by domain id outs (ports device_streams) before
-frames_all domain id outs device_streams at before past = ap (λ (ls : List DeviceStream). given_by domain id outs (ports ls) before) (take_all at device_streams past)
+    → frame_given_by domain id outs (ports (take at device_streams)) before ≡ frame_given_by domain id outs (ports device_streams) before
+frames_all domain id outs device_streams at before past = ap (λ (ls : List DeviceStream). frame_given_by domain id outs (ports ls) before) (take_all at device_streams past)
 
 -- a wire that is hushed has silence on its channels
 pub hushed : (frame : Option (List ℤ)) (channels : ℕ) → option_map length frame ≡ Some channels

@@ -47,7 +47,7 @@ met_more test device_streams at d l found bits weight more below read is heavy s
 pub met_all : (test : Port → Bool) (device_streams : List DeviceStream) (at bits : ℕ) → length device_streams ≤ at → bits ≡ bits_of (map test (ports (take at device_streams))) → bits ≡ bits_of (map test (ports device_streams))
 met_all test device_streams at bits past so_far = so_far ∙ ap (λ (ls : List DeviceStream). bits_of (map test (ports ls))) (take_all at device_streams past)
 
--- what a device stream at a place keeps
+-- what a device stream at an index keeps
 pub keeps_here : (device_streams : List DeviceStream) (outs : ℕ → Option OutStream) (ins : ℕ → Option InStream) (at : ℕ) (d l : DeviceStream) → DeviceStreamsStand device_streams outs ins → at < length device_streams
     → l ≡ get_or device_streams at d → DeviceStreamStands l (outs l.port.interface) (ins l.port.interface)
 keeps_here device_streams outs ins at d l keeps below read =

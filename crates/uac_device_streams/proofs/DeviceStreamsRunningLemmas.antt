@@ -8,7 +8,7 @@ use Rattle.uac_device_streams.specs.InterfaceStreams.{NoneRuns, runs_either}
 use Rattle.uac_device_streams.specs.declared.device_stream.Flow.{Flow}
 use Rattle.uac_device_streams.specs.declared.device_stream.Flow.TheVariants as flow
 use Rattle.uac_device_streams.specs.declared.device_stream.DeviceStream.{DeviceStream}
-use Rattle.uac_device_streams.specs.DeviceStreams.{FlowStands, DeviceStreamStands, DeviceStreamsStand, is_running, stream_place, ports}
+use Rattle.uac_device_streams.specs.DeviceStreams.{FlowStands, DeviceStreamStands, DeviceStreamsStand, is_running, device_stream_index, ports}
 use Rattle.uac_device_streams.proofs.DeviceStreamsLemmas.{stream_found, stream_keeps}
 
 -- a device stream is running where its interface runs a stream
@@ -50,17 +50,17 @@ all_idle (l ∷ ls) none =
 
 -- where none of the device streams runs no interface does
 pub none_runs : (device_streams : List DeviceStream) (outs : ℕ → Option OutStream) (ins : ℕ → Option InStream) → DeviceStreamsStand device_streams outs ins → run_one device_streams ≡ false → NoneRuns outs ins
-none_runs device_streams outs ins keeps none interface = by_place (stream_place device_streams interface) refl
+none_runs device_streams outs ins keeps none interface = by_index (device_stream_index device_streams interface) refl
   where
     of_stream : (l : DeviceStream) → DeviceStreamStands l (outs interface) (ins interface) → is_running l.flow ≡ false → (outs interface ≡ None) × (ins interface ≡ None)
     of_stream l own idle = idle_flow l.ring l.flow (outs interface) (ins interface) own idle
 
-    by_place : (o : Option ℕ) → stream_place device_streams interface ≡ o → (outs interface ≡ None) × (ins interface ≡ None)
-    by_place None is = keeps.none interface is
-    by_place (Some place) is = in_list device_streams refl
+    by_index : (o : Option ℕ) → device_stream_index device_streams interface ≡ o → (outs interface ≡ None) × (ins interface ≡ None)
+    by_index None is = keeps.none interface is
+    by_index (Some index) is = in_list device_streams refl
       where
         in_list : (ls : List DeviceStream) → device_streams ≡ ls → (outs interface ≡ None) × (ins interface ≡ None)
-        in_list [] same = keeps.none interface (ap (λ (ms : List DeviceStream). stream_place ms interface) same)
+        in_list [] same = keeps.none interface (ap (λ (ms : List DeviceStream). device_stream_index ms interface) same)
         in_list (d ∷ ls) same =
-            of_stream (get_or device_streams place d) (stream_keeps device_streams outs ins interface place d (get_or device_streams place d) keeps is refl)
-            (all_idle device_streams none place d (stream_found device_streams interface place d is).0)
+            of_stream (get_or device_streams index d) (stream_keeps device_streams outs ins interface index d (get_or device_streams index d) keeps is refl)
+            (all_idle device_streams none index d (stream_found device_streams interface index d is).0)

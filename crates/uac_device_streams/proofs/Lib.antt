@@ -1,5 +1,5 @@
-pub mod Turning
-pub mod DeviceStreamLemmas
+pub mod ListChangeLemmas
+pub mod DeviceStreamsFlowLemmas
 pub mod DeviceStreamsLemmas
 pub mod DeviceStreamsChangeLemmas
 pub mod DeviceStreamsFrameLemmas

@@ -67,9 +67,9 @@ IsFlow port ring (flow.In f) = IsInFlow ring f × (port.out ≡ false) × (f.str
 abbrev pub IsDeviceStream : DeviceStream → Type 0
 IsDeviceStream l = IsFlow l.port l.ring l.flow
 
--- the place of an interface's stream
-abbrev pub stream_place : List DeviceStream → ℕ → Option ℕ
-stream_place device_streams interface = position (λ l. l.port.interface == interface) device_streams
+-- the index of an interface's stream
+abbrev pub device_stream_index : List DeviceStream → ℕ → Option ℕ
+device_stream_index device_streams interface = position (λ l. l.port.interface == interface) device_streams
 
 -- the ports of the interfaces
 abbrev pub ports : List DeviceStream → List Port
@@ -78,7 +78,7 @@ ports device_streams = map (λ l. l.port) device_streams
 -- what is kept of the interfaces stands for these streams, by interface
 pub record DeviceStreamsStand (device_streams : List DeviceStream) (outs : ℕ → Option OutStream) (ins : ℕ → Option InStream) : Type 0 where
   pub each : All (λ l. DeviceStreamStands l (outs l.port.interface) (ins l.port.interface)) device_streams
-  pub none : (interface : ℕ) → stream_place device_streams interface ≡ None → (outs interface ≡ None) × (ins interface ≡ None)
+  pub none : (interface : ℕ) → device_stream_index device_streams interface ≡ None → (outs interface ≡ None) × (ins interface ≡ None)
 
 -- what is always so of all of them: they are of different interfaces
 pub record AreDeviceStreams (device_streams : List DeviceStream) : Type 0 where
@@ -92,11 +92,11 @@ abbrev pub IsWired : Frames → Port → Type 0
 IsWired wires p = option_map length (frame_on wires p.terminal) ≡ Some p.channels
 
 -- so it is for each that goes to the device, and for each that comes from it where there is one
-abbrev pub WiredIn : Frames → Port → Type 0
-WiredIn wires p = p.out ≡ true → IsWired wires p
+abbrev pub IsWiredIn : Frames → Port → Type 0
+IsWiredIn wires p = p.out ≡ true → IsWired wires p
 
-abbrev pub WiredOut : Frames → Port → Type 0
-WiredOut wires p = p.out ≡ false → 1 ≤ p.channels → IsWired wires p
+abbrev pub IsWiredOut : Frames → Port → Type 0
+IsWiredOut wires p = p.out ≡ false → 1 ≤ p.channels → IsWired wires p
 
 -- a tick of this domain gives a terminal a frame by this interface
 abbrev pub gives_to : ℕ → ℕ → Port → Bool
@@ -107,30 +107,30 @@ abbrev pub frame_given : Option OutStream → Port → List ℤ
 frame_given out p = unwrap_or (option_and_then next_taken out) (silence p.channels)
 
 -- the frame on a terminal's wire, after all these interfaces gave theirs
-abbrev pub given_by : ℕ → ℕ → (ℕ → Option OutStream) → List Port → Option (List ℤ) → Option (List ℤ)
-given_by domain id outs ps before =
+abbrev pub frame_given_by : ℕ → ℕ → (ℕ → Option OutStream) → List Port → Option (List ℤ) → Option (List ℤ)
+frame_given_by domain id outs ps before =
     fold (λ frame p. if gives_to domain id p then Some (frame_given (outs p.interface) p) else frame) before ps
 
 -- what the ticks of a domain make of the stream of an interface, where its terminal is of that domain
-abbrev pub counted_on : ℕ → ℕ → Port → Option OutStream → Option OutStream
-counted_on domain ticks p out = option_map (λ o. if p.domain == domain then after_ticks ticks o else o) out
+abbrev pub stream_counted_on : ℕ → ℕ → Port → Option OutStream → Option OutStream
+stream_counted_on domain ticks p out = option_map (λ o. if p.domain == domain then after_ticks ticks o else o) out
 
-abbrev pub taken_on : ℕ → Port → Option OutStream → Option OutStream
-taken_on domain p out = option_map (λ o. if p.domain == domain then after_taking o else o) out
+abbrev pub stream_taken_on : ℕ → Port → Option OutStream → Option OutStream
+stream_taken_on domain p out = option_map (λ o. if p.domain == domain then after_taking o else o) out
 
-abbrev pub put_on : ℕ → List ℤ → Port → Option InStream → Option InStream
-put_on domain frame p in_ = option_map (λ i. if p.domain == domain then after_putting frame i else i) in_
+abbrev pub stream_put_on : ℕ → List ℤ → Port → Option InStream → Option InStream
+stream_put_on domain frame p in_ = option_map (λ i. if p.domain == domain then after_putting frame i else i) in_
 
 -- the interfaces that a tick of a domain finds dry, and full
-abbrev pub found_dry : ℕ → Option OutStream → Port → Bool
-found_dry domain out p = p.domain == domain && option_map_or is_dry out false
+abbrev pub is_found_dry : ℕ → Option OutStream → Port → Bool
+is_found_dry domain out p = p.domain == domain && option_map_or is_dry out false
 
-abbrev pub found_full : ℕ → Option InStream → Port → Bool
-found_full domain in_ p = p.domain == domain && option_map_or is_full in_ false
+abbrev pub is_found_full : ℕ → Option InStream → Port → Bool
+is_found_full domain in_ p = p.domain == domain && option_map_or is_full in_ false
 
 abbrev pub met_by : ℕ → (ℕ → Option OutStream) → (ℕ → Option InStream) → List Port → Ticked
 met_by domain outs ins ps =
     record {
-      under = bits_of (map (λ p. found_dry domain (outs p.interface) p) ps);
-      over = bits_of (map (λ p. found_full domain (ins p.interface) p) ps);
+      under = bits_of (map (λ p. is_found_dry domain (outs p.interface) p) ps);
+      over = bits_of (map (λ p. is_found_full domain (ins p.interface) p) ps);
     }

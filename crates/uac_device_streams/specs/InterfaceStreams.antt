@@ -34,11 +34,11 @@ abbrev pub NoneRuns : (ℕ → Option OutStream) → (ℕ → Option InStream) �
 NoneRuns outs ins = (interface : ℕ) → (outs interface ≡ None) × (ins interface ≡ None)
 
 -- streams of which that of one interface changes, or is another
-abbrev pub changed_at : {S : Type 0} → ℕ → (S → S) → (ℕ → Option S) → ℕ → Option S
-changed_at interface change streams k = if k == interface then option_map change (streams k) else streams k
+abbrev pub streams_changed_at : {S : Type 0} → ℕ → (S → S) → (ℕ → Option S) → ℕ → Option S
+streams_changed_at interface change streams k = if k == interface then option_map change (streams k) else streams k
 
-abbrev pub replaced_at : {S : Type 0} → ℕ → Option S → (ℕ → Option S) → ℕ → Option S
-replaced_at interface stream streams k = if k == interface then stream else streams k
+abbrev pub streams_replaced_at : {S : Type 0} → ℕ → Option S → (ℕ → Option S) → ℕ → Option S
+streams_replaced_at interface stream streams k = if k == interface then stream else streams k
 
 -- the streams by interface, of which those of some interfaces change
 abbrev pub changed_where : {S : Type 0} → (ℕ → Bool) → (ℕ → S → S) → (ℕ → Option S) → ℕ → Option S

@@ -9,8 +9,9 @@ ghost use Rattle.uac_flow.specs.FlowStreams.{is_dry, next_taken, sent_frames, se
 ghost use Rattle.uac_flow.specs.declared.arrival.Arrival.TheVariants as arrival;
 ghost use Rattle.uac_device_streams.specs.InterfaceStreams.{either_due, in_from, level_in, out_from};
 ghost use Rattle.uac_device_streams.specs.DeviceStreams.{FitsPort, IsFlow, IsDeviceStream, FlowStands, DeviceStreamStands, Changes};
-ghost use Rattle.uac_device_streams.specs.DeviceStreams.{WiredIn, WiredOut, counted_on, found_dry};
-ghost use Rattle.uac_device_streams.specs.DeviceStreams.{found_full, frame_given, gives_to, idle_stream, is_running, put_on, taken_on};
+ghost use Rattle.uac_device_streams.specs.DeviceStreams.{IsWiredIn, IsWiredOut, stream_counted_on, is_found_dry};
+ghost use Rattle.uac_device_streams.specs.DeviceStreams.{is_found_full, frame_given, gives_to, idle_stream, is_running, stream_put_on};
+ghost use Rattle.uac_device_streams.specs.DeviceStreams.{stream_taken_on};
 
 use std::alloc::Global;
 use uac_alt::Stream;
@@ -176,7 +177,7 @@ impl DeviceStream {
     /// Counts the ticks of a domain that came, where the interface's stream goes to a terminal of the domain.
     pub(crate) fn count(&mut self, domain: u8, ticks: u32)
         requires { IsDeviceStream self.old }
-        ensures turns { Changes (counted_on domain ticks self.old.port) (λ in_. in_) self.old self.new }
+        ensures turns { Changes (stream_counted_on domain ticks self.old.port) (λ in_. in_) self.old self.new }
         ensures sound { IsDeviceStream self.new }
     {
         match &mut self.flow {
@@ -194,12 +195,12 @@ impl DeviceStream {
     /// and puts it on its wire. Answers what the tick finds.
     pub(crate) fn begin(&mut self, domain: u8, wires: &mut Wires) -> Found
         requires sound { IsDeviceStream self.old }
-        requires wired { WiredIn wires.old self.old.port }
-        ensures turns { Changes (taken_on domain self.old.port) (λ in_. in_) self.old self.new }
+        requires wired { IsWiredIn wires.old self.old.port }
+        ensures turns { Changes (stream_taken_on domain self.old.port) (λ in_. in_) self.old self.new }
         ensures dry { (out : Option OutStream) (in_ : Option InStream) → DeviceStreamStands self.old out in_
-            → result.dry ≡ found_dry domain out self.old.port }
+            → result.dry ≡ is_found_dry domain out self.old.port }
         ensures full { (out : Option OutStream) (in_ : Option InStream) → DeviceStreamStands self.old out in_
-            → result.full ≡ found_full domain in_ self.old.port }
+            → result.full ≡ is_found_full domain in_ self.old.port }
         ensures frame { (out : Option OutStream) (in_ : Option InStream) → DeviceStreamStands self.old out in_
             → (id : ℕ) → frame_on wires.new id
             ≡ (if gives_to domain id self.old.port then Some (frame_given out self.old.port) else frame_on wires.old id) }
@@ -231,8 +232,9 @@ impl DeviceStream {
     /// A tick of a domain: a stream from a terminal of the domain takes the frame that this played.
     pub(crate) fn put(&mut self, domain: u8, wires: &Wires)
         requires sound { IsDeviceStream self.old }
-        requires wired { WiredOut wires.now self.old.port }
-        ensures turns { Changes (λ out. out) (put_on domain (samples_on wires.now self.old.port.terminal) self.old.port) self.old self.new }
+        requires wired { IsWiredOut wires.now self.old.port }
+        ensures turns { Changes (λ out. out) (stream_put_on domain (samples_on wires.now self.old.port.terminal) self.old.port) self.old
+            self.new }
         ensures sound { IsDeviceStream self.new }
     {
         match &self.flow {
@@ -263,7 +265,7 @@ pub(crate) fn is_running(flow: &Flow) -> bool
 // At a tick of a domain a terminal of the bus in the domain that gets no stream puts silence on its wire.
 #[tactic(auto, using(crate::proofs::DeviceStreamsFrameLemmas::hushed))]
 fn rest(port: Port, domain: u8, wires: &mut Wires)
-    requires { WiredIn wires.old port }
+    requires { IsWiredIn wires.old port }
     ensures frame { (id : ℕ) → frame_on wires.new id
         ≡ (if gives_to domain id port then Some (silence port.channels) else frame_on wires.old id) }
     ensures lengths { (id : ℕ) → option_map length (frame_on wires.new id) ≡ option_map length (frame_on wires.old id) }

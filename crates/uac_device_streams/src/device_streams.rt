@@ -7,9 +7,11 @@ ghost use Rattle.uac_flow.specs.Flows.{ZerosFit};
 ghost use Rattle.uac_flow.specs.FlowStreams.{InStream, OutStream, after_packet, after_sending, arrival_of, feedback_of, sent_frames};
 ghost use Rattle.uac_flow.specs.FlowStreams.{sent_packet, settled_in, settled_out};
 ghost use Rattle.uac_flow.specs.declared.arrival.Arrival.TheVariants as arrival;
-ghost use Rattle.uac_device_streams.specs.InterfaceStreams.{NoneRuns, changed_at, either_due, in_from, level_in, out_from, replaced_at};
+ghost use Rattle.uac_device_streams.specs.InterfaceStreams.{NoneRuns, streams_changed_at, either_due, in_from, level_in, out_from};
+ghost use Rattle.uac_device_streams.specs.InterfaceStreams.{streams_replaced_at};
 ghost use Rattle.uac_device_streams.specs.InterfaceStreams.{runs_either};
-ghost use Rattle.uac_device_streams.specs.DeviceStreams.{FitsPort, DeviceStreamsStand, idle_stream, is_running, stream_place, port_of};
+ghost use Rattle.uac_device_streams.specs.DeviceStreams.{FitsPort, DeviceStreamsStand, idle_stream, is_running, device_stream_index};
+ghost use Rattle.uac_device_streams.specs.DeviceStreams.{port_of};
 ghost use Rattle.uac_device_streams.specs.DeviceStreams.{port_with, ports};
 ghost use Rattle.uac_device_streams.specs.declared.device_stream.Port as ported;
 
@@ -58,8 +60,8 @@ impl DeviceStreams {
     }
 
     // The index of an interface's stream.
-    fn place(&self, interface: u16) -> Option<usize>
-        ensures { result ≡ stream_place self.now interface }
+    fn stream_index(&self, interface: u16) -> Option<usize>
+        ensures { result ≡ device_stream_index self.now interface }
     {
         self.list
             .iter()
@@ -81,8 +83,8 @@ impl DeviceStreams {
         ensures { (outs : ℕ → Option OutStream) (ins : ℕ → Option InStream) → DeviceStreamsStand self.now outs ins
             → result ≡ level_in (outs interface) (ins interface) }
     {
-        match self.place(interface.into()) {
-            Some(place) => self.list[place].level(),
+        match self.stream_index(interface.into()) {
+            Some(index) => self.list[index].level(),
             None => 0,
         }
     }
@@ -92,8 +94,8 @@ impl DeviceStreams {
         ensures { (outs : ℕ → Option OutStream) (ins : ℕ → Option InStream) → DeviceStreamsStand self.now outs ins
             → result ≡ option_and_then (λ o. o.target) (outs interface) }
     {
-        match self.place(interface.into()) {
-            Some(place) => self.list[place].target(),
+        match self.stream_index(interface.into()) {
+            Some(index) => self.list[index].target(),
             None => None,
         }
     }
@@ -103,8 +105,8 @@ impl DeviceStreams {
         ensures { (outs : ℕ → Option OutStream) (ins : ℕ → Option InStream) → DeviceStreamsStand self.now outs ins
             → result ≡ either_due (outs interface) (ins interface) }
     {
-        match self.place(interface.into()) {
-            Some(place) => self.list[place].due(),
+        match self.stream_index(interface.into()) {
+            Some(index) => self.list[index].due(),
             None => false,
         }
     }
@@ -114,8 +116,8 @@ impl DeviceStreams {
         ensures { (outs : ℕ → Option OutStream) (ins : ℕ → Option InStream) → DeviceStreamsStand self.now outs ins
             → result ≡ option_and_then feedback_of (outs interface) }
     {
-        match self.place(interface.into()) {
-            Some(place) => self.list[place].feedback(),
+        match self.stream_index(interface.into()) {
+            Some(index) => self.list[index].feedback(),
             None => None,
         }
     }
@@ -125,12 +127,12 @@ impl DeviceStreams {
         requires fits { IfSome begun (λ s. (port : ported.Port) × (find (λ p. p.interface == interface) (ports self.old) ≡ Some port)
             × FitsPort port (stream_fields s)) }
         ensures stands { (outs : ℕ → Option OutStream) (ins : ℕ → Option InStream) → DeviceStreamsStand self.old outs ins
-            → DeviceStreamsStand self.new (replaced_at interface (option_and_then out_from (option_map stream_fields begun)) outs)
-            (replaced_at interface (option_and_then in_from (option_map stream_fields begun)) ins) }
+            → DeviceStreamsStand self.new (streams_replaced_at interface (option_and_then out_from (option_map stream_fields begun)) outs)
+            (streams_replaced_at interface (option_and_then in_from (option_map stream_fields begun)) ins) }
         ensures ports { ports self.new ≡ ports self.old }
     {
-        match self.place(interface) {
-            Some(place) => self.list[place].restart(begun),
+        match self.stream_index(interface) {
+            Some(index) => self.list[index].restart(begun),
             None => {}
         }
     }
@@ -138,13 +140,14 @@ impl DeviceStreams {
     /// A packet comes to the device on an interface, or is lost.
     pub fn receive(&mut self, interface: u8, packet: Option<&Packet>) -> Arrival
         ensures stands { (outs : ℕ → Option OutStream) (ins : ℕ → Option InStream) → DeviceStreamsStand self.old outs ins
-            → DeviceStreamsStand self.new (changed_at interface (after_packet (option_map (λ p. p.now.items) packet.entry)) outs) ins }
+            → DeviceStreamsStand self.new (streams_changed_at interface (after_packet (option_map (λ p. p.now.items) packet.entry)) outs)
+            ins }
         ensures arrival { (outs : ℕ → Option OutStream) (ins : ℕ → Option InStream) → DeviceStreamsStand self.old outs ins
             → result ≡ option_map_or (arrival_of (option_map (λ p. p.now.items) packet.entry)) (outs interface) arrival.Lost }
         ensures ports { ports self.new ≡ ports self.old }
     {
-        match self.place(interface.into()) {
-            Some(place) => self.list[place].receive(packet),
+        match self.stream_index(interface.into()) {
+            Some(index) => self.list[index].receive(packet),
             None => Arrival::Lost,
         }
     }
@@ -152,15 +155,15 @@ impl DeviceStreams {
     /// Forms the packet from the device of an interface, and answers the number of its frames.
     pub fn send(&mut self, interface: u8, packet: &mut Packet) -> u32
         ensures stands { (outs : ℕ → Option OutStream) (ins : ℕ → Option InStream) → DeviceStreamsStand self.old outs ins
-            → DeviceStreamsStand self.new outs (changed_at interface after_sending ins) }
+            → DeviceStreamsStand self.new outs (streams_changed_at interface after_sending ins) }
         ensures packet { (outs : ℕ → Option OutStream) (ins : ℕ → Option InStream) → DeviceStreamsStand self.old outs ins
             → packet.new.items ≡ option_map_or sent_packet (ins interface) [] }
         ensures frames { (outs : ℕ → Option OutStream) (ins : ℕ → Option InStream) → DeviceStreamsStand self.old outs ins
             → result ≡ option_map_or sent_frames (ins interface) 0 }
         ensures ports { ports self.new ≡ ports self.old }
     {
-        match self.place(interface.into()) {
-            Some(place) => self.list[place].send(packet),
+        match self.stream_index(interface.into()) {
+            Some(index) => self.list[index].send(packet),
             None => {
                 packet.clear();
                 0
@@ -172,11 +175,11 @@ impl DeviceStreams {
     pub fn settle(&mut self, interface: u8)
         ensures stands { (outs : ℕ → Option OutStream) (ins : ℕ → Option InStream) → DeviceStreamsStand self.old outs ins
             → IfSome (outs interface) ZerosFit
-            → DeviceStreamsStand self.new (changed_at interface settled_out outs) (changed_at interface settled_in ins) }
+            → DeviceStreamsStand self.new (streams_changed_at interface settled_out outs) (streams_changed_at interface settled_in ins) }
         ensures ports { ports self.new ≡ ports self.old }
     {
-        match self.place(interface.into()) {
-            Some(place) => self.list[place].settle(),
+        match self.stream_index(interface.into()) {
+            Some(index) => self.list[index].settle(),
             None => {}
         }
     }

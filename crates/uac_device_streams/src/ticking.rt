@@ -5,7 +5,8 @@ ghost use Rattle.std.specs.Option.{option_map};
 ghost use Rattle.uac_graph.specs.Wiring.{frame_on};
 ghost use Rattle.uac_flow.specs.FlowStreams.{InStream, OutStream, after_putting, after_taking, after_ticks};
 ghost use Rattle.uac_device_streams.specs.InterfaceStreams.{changed_where};
-ghost use Rattle.uac_device_streams.specs.DeviceStreams.{AreDeviceStreams, IsDeviceStream, DeviceStreamsStand, WiredIn, WiredOut, given_by};
+ghost use Rattle.uac_device_streams.specs.DeviceStreams.{AreDeviceStreams, IsDeviceStream, DeviceStreamsStand, IsWiredIn, IsWiredOut};
+ghost use Rattle.uac_device_streams.specs.DeviceStreams.{frame_given_by};
 ghost use Rattle.uac_device_streams.specs.DeviceStreams.{met_by, ports};
 
 use crate::device_stream::DeviceStream;
@@ -34,14 +35,14 @@ impl DeviceStreams {
     /// Answers what the tick meets.
     pub fn begin(&mut self, domain: u8, wires: &mut Wires) -> Ticked
         requires few { length self.old ≤ 8 }
-        requires wired { All (WiredIn wires.old) (ports self.old) }
+        requires wired { All (IsWiredIn wires.old) (ports self.old) }
         ensures met { (outs : ℕ → Option OutStream) (ins : ℕ → Option InStream) → DeviceStreamsStand self.old outs ins
             → result ≡ met_by domain outs ins (ports self.old) }
         ensures stands { (on : ℕ → Bool) (outs : ℕ → Option OutStream) (ins : ℕ → Option InStream)
             → All (λ p. on p.interface ≡ (p.domain == domain)) (ports self.old) → DeviceStreamsStand self.old outs ins
             → DeviceStreamsStand self.new (changed_where on (λ interface. after_taking) outs) ins }
         ensures frames { (outs : ℕ → Option OutStream) (ins : ℕ → Option InStream) → DeviceStreamsStand self.old outs ins
-            → (id : ℕ) → frame_on wires.new id ≡ given_by domain id outs (ports self.old) (frame_on wires.old id) }
+            → (id : ℕ) → frame_on wires.new id ≡ frame_given_by domain id outs (ports self.old) (frame_on wires.old id) }
         ensures lengths { (id : ℕ) → option_map length (frame_on wires.new id) ≡ option_map length (frame_on wires.old id) }
         ensures ports { ports self.new ≡ ports self.old }
     {
@@ -50,7 +51,7 @@ impl DeviceStreams {
 
     /// The streams from the terminals of a domain take the frames that these played.
     pub fn put(&mut self, domain: u8, wires: &Wires)
-        requires wired { All (WiredOut wires.now) (ports self.old) }
+        requires wired { All (IsWiredOut wires.now) (ports self.old) }
         ensures stands { (on : ℕ → Bool) (played : ℕ → List ℤ) (outs : ℕ → Option OutStream) (ins : ℕ → Option InStream)
             → All (λ p. on p.interface ≡ (p.domain == domain)) (ports self.old)
             → All (λ p. p.out ≡ false → 1 ≤ p.channels → frame_on wires.now p.terminal ≡ Some (played p.interface)) (ports self.old)
@@ -80,14 +81,14 @@ fn count(device_streams: &mut [DeviceStream], domain: u8, ticks: u32)
 fn begin(device_streams: &mut [DeviceStream], domain: u8, wires: &mut Wires) -> Ticked
     requires few { length device_streams.old ≤ 8 }
     requires sound { All IsDeviceStream device_streams.old }
-    requires wired { All (WiredIn wires.old) (ports device_streams.old) }
+    requires wired { All (IsWiredIn wires.old) (ports device_streams.old) }
     ensures met { (outs : ℕ → Option OutStream) (ins : ℕ → Option InStream) → DeviceStreamsStand device_streams.old outs ins
         → result ≡ met_by domain outs ins (ports device_streams.old) }
     ensures stands { (on : ℕ → Bool) (outs : ℕ → Option OutStream) (ins : ℕ → Option InStream)
         → All (λ p. on p.interface ≡ (p.domain == domain)) (ports device_streams.old) → DeviceStreamsStand device_streams.old outs ins
         → DeviceStreamsStand device_streams.new (changed_where on (λ interface. after_taking) outs) ins }
     ensures frames { (outs : ℕ → Option OutStream) (ins : ℕ → Option InStream) → DeviceStreamsStand device_streams.old outs ins
-        → (id : ℕ) → frame_on wires.new id ≡ given_by domain id outs (ports device_streams.old) (frame_on wires.old id) }
+        → (id : ℕ) → frame_on wires.new id ≡ frame_given_by domain id outs (ports device_streams.old) (frame_on wires.old id) }
     ensures lengths { (id : ℕ) → option_map length (frame_on wires.new id) ≡ option_map length (frame_on wires.old id) }
     ensures ports { ports device_streams.new ≡ ports device_streams.old }
     ensures sound { All IsDeviceStream device_streams.new }
@@ -127,7 +128,7 @@ fn bits_met(under: u16, over: u16) -> Ticked
 // The streams from the terminals of a domain take the frames that these played.
 fn put(device_streams: &mut [DeviceStream], domain: u8, wires: &Wires)
     requires sound { All IsDeviceStream device_streams.old }
-    requires wired { All (WiredOut wires.now) (ports device_streams.old) }
+    requires wired { All (IsWiredOut wires.now) (ports device_streams.old) }
     ensures stands { (on : ℕ → Bool) (played : ℕ → List ℤ) (outs : ℕ → Option OutStream) (ins : ℕ → Option InStream)
         → All (λ p. on p.interface ≡ (p.domain == domain)) (ports device_streams.old)
         → All (λ p. p.out ≡ false → 1 ≤ p.channels → frame_on wires.now p.terminal ≡ Some (played p.interface)) (ports device_streams.old)

@@ -1,5 +1,5 @@
 pub mod WritingLemmas
 pub mod MemoryLemmas
-pub mod Consuming
+pub mod KnownBytesLemmas
 pub mod NumeralsLemmas
 pub mod StdEdgesLemmas

@@ -1,4 +1,4 @@
--- What stands after an interface block, from a place on.
+-- What stands after an interface block, from an index on.
 use Rattle.std.proofs.Common.{◌≡◌, ℕ, ◌+◌, ◌-◌, ◌<◌, ◌≤◌, Bool, true, false, cond, List, [], ◌∷◌, ◌++◌, Option, Some, None, suc, zero, length, get_or, drop, refl, sym, ap, ◌∙◌, arith}
 use Rattle.std.specs.Prelude.{slice_get}
 use Rattle.std.specs.List.{filter_map, cons_option, find}
@@ -38,7 +38,7 @@ own_at_next r xs j b below is e =
 pub own_at_end : {X : Type 0} (r : block.Block → Option X) (xs : List block.Block) (j : ℕ) → length xs ≤ j → own r (drop j xs) ≡ []
 own_at_end r xs j past = ap (own r) (drop_all j xs past) ∙ own-nil r
 
--- the elements that give something, from a place on
+-- the elements that give something, from an index on
 pub filter_map_at : {X Y : Type 0} (h : X → Option Y) (xs : List X) (j : ℕ) (x : X) → j < length xs → x ≡ get_or xs j x →
     filter_map h (drop j xs) ≡ cons_option (h x) (filter_map h (drop (j + 1) xs))
 filter_map_at h xs j x below is =
@@ -47,7 +47,7 @@ filter_map_at h xs j x below is =
 pub filter_map_end : {X Y : Type 0} (h : X → Option Y) (xs : List X) (j : ℕ) → length xs ≤ j → filter_map h (drop j xs) ≡ []
 filter_map_end h xs j past = ap (filter_map h) (drop_all j xs past)
 
--- the first that passes, from a place on
+-- the first that passes, from an index on
 pub find_at : {X : Type 0} (p : X → Bool) (xs : List X) (j : ℕ) (x : X) → j < length xs → x ≡ get_or xs j x →
     find p (drop j xs) ≡ cond (p x) (Some x) (find p (drop (j + 1) xs))
 find_at p xs j x below is =

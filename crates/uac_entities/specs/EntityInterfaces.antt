@@ -38,12 +38,12 @@ abbrev pub links_of : List Setting → List ℕ
 links_of settings = filter_map link_of settings
 
 -- a setting, where it is one of this interface
-unfoldable pub setting_of : ℕ → DeclaredSetting → Option Setting
-setting_of number a = if a.interface == number then Some a.setting else None
+unfoldable pub setting_on_interface : ℕ → DeclaredSetting → Option Setting
+setting_on_interface number a = if a.interface == number then Some a.setting else None
 
 -- the settings of an interface, in block order
 abbrev pub settings_of : List DeclaredSetting → ℕ → List Setting
-settings_of all number = filter_map (setting_of number) all
+settings_of all number = filter_map (setting_on_interface number) all
 
 -- a streaming interface goes from the host to the device where it links to an input terminal
 unfoldable pub streaming_interface_of : List Entity → List DeclaredSetting → ℕ → StreamInterface

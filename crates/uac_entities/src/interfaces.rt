@@ -68,15 +68,15 @@ fn settings_of(alloc: Global, all: &[DeclaredSetting], number: u8) -> Result<Set
 {
     let mut settings = Vec::new(alloc);
     for declared in all {
-        let setting = setting_of(number, declared);
+        let setting = setting_on_interface(number, declared);
         keep(&mut settings, setting)?;
     }
     Ok(SettingList::from_vec(settings))
 }
 
-#[tactic(auto, unfolding(crate::specs::EntityInterfaces::setting_of))]
-fn setting_of(number: u8, declared: &DeclaredSetting) -> Option<Setting>
-    ensures { result ≡ spec.setting_of number declared.now }
+#[tactic(auto, unfolding(crate::specs::EntityInterfaces::setting_on_interface))]
+fn setting_on_interface(number: u8, declared: &DeclaredSetting) -> Option<Setting>
+    ensures { result ≡ spec.setting_on_interface number declared.now }
 {
     if declared.interface == number {
         Some(copy_setting(&declared.setting))

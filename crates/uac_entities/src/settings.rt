@@ -26,9 +26,9 @@ pub fn declared_settings(alloc: Global, blocks: &[Block]) -> Result<Vec<Declared
     ensures { IfOk result (λ all. all.items ≡ spec.declared_settings blocks.now) }
 {
     let mut all = Vec::new(alloc);
-    for (place, block) in blocks.iter().enumerate() {
+    for (index, block) in blocks.iter().enumerate() {
         if let Block::Interface(interface) = block {
-            let declared = declared_setting_at(interface, &blocks[place + 1..]);
+            let declared = declared_setting_at(interface, &blocks[index + 1..]);
             keep(&mut all, declared)?;
         }
     }

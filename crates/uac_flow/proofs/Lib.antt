@@ -1,4 +1,4 @@
 pub mod FlowsFrameLemmas
 pub mod FlowsCountLemmas
-pub mod Settling
+pub mod FlowStreamsLemmas
 mod Worked

@@ -49,14 +49,14 @@ begun count x first second third drawn eights lost line left some e1 e2 e3 ed ee
     ap (λ n. from_groups n x) one ∙ rw (left-is, line-is, el, ee, ed, e3, e2, e1) (next_group (count - 1) x)
 
 -- the whole script, by what was drawn in front of it
-pub begins : (number first second place more : ℕ) (bytes : List ℕ) → first ≡ next_x number → place ≡ draw 12 first → second ≡ next_x first → more ≡ draw 30 second
+pub begins : (number first second index more : ℕ) (bytes : List ℕ) → first ≡ next_x number → index ≡ draw 12 first → second ≡ next_x first → more ≡ draw 30 second
     → bytes ≡ descriptor_of (1 + more)
-    → map (feed_line bytes) (range_with_len 0 (feed_count bytes - 0)) ++ lines_after_descriptor number (slice_index twelve_rates place) second ≡ generated_lines number
+    → map (feed_line bytes) (range_with_len 0 (feed_count bytes - 0)) ++ lines_after_descriptor number (slice_index twelve_rates index) second ≡ generated_lines number
 unfolding generated_lines
-begins number first second place more bytes e1 ep e2 em eb =
+begins number first second index more bytes e1 ep e2 em eb =
     let all : feed_count bytes - 0 ≡ feed_count bytes = omega arith in
-    let following = lines_after_descriptor number (slice_index twelve_rates place) second in
-    let drawn : place ≡ draw 12 (next_x number) = ep ∙ ap (draw 12) e1 in
+    let following = lines_after_descriptor number (slice_index twelve_rates index) second in
+    let drawn : index ≡ draw 12 (next_x number) = ep ∙ ap (draw 12) e1 in
     let moved : second ≡ next_x (next_x number) = e2 ∙ ap next_x e1 in
     let fed : bytes ≡ descriptor_of (1 + draw 30 second) = eb ∙ ap (λ n. descriptor_of (1 + n)) em in
     ap (λ n. map (feed_line bytes) (range_with_len 0 n) ++ following) all

@@ -1,3 +1,3 @@
 pub mod DescriptorLemmas
 pub mod GeneratedScriptLemmas
-pub mod LineMoves
+pub mod CopyRestLemmas

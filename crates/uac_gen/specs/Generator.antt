@@ -19,7 +19,7 @@ draw numbers x = x / 65536 % numbers
 -- ---- the descriptor, in lines of 64 bytes, the last perhaps shorter
 
 abbrev pub feed_line : List ℕ → ℕ → List ℕ
-feed_line bytes place = codes "d " ++ encode_lower (take 64 (drop (64 * place) bytes))
+feed_line bytes index = codes "d " ++ encode_lower (take 64 (drop (64 * index) bytes))
 
 abbrev pub feed_count : List ℕ → ℕ
 feed_count bytes = (length bytes + 63) / 64
@@ -32,8 +32,8 @@ feed_lines bytes = map (feed_line bytes) (range_with_len 0 (feed_count bytes))
 abbrev pub rate_line : ℕ → List ℕ
 rate_line hertz = codes "c 2101000100010400 " ++ encode_lower (to_le_bytes w32 hertz)
 
-abbrev pub setting_line : List ℕ
-setting_line = codes "c 010b010001000000"
+abbrev pub setting_script_line : List ℕ
+setting_script_line = codes "c 010b010001000000"
 
 abbrev pub tone_line : ℕ → List ℕ
 tone_line number = codes "t 1 noise " ++ decimal number
@@ -74,7 +74,8 @@ groups (suc count) x =
 -- ---- the whole script: the first draw picks the rate, the second the number of units
 
 abbrev pub lines_after_descriptor : ℕ → ℕ → ℕ → List (List ℕ)
-lines_after_descriptor number hertz x = codes "g" ∷ rate_line hertz ∷ setting_line ∷ tone_line number ∷ (groups 250 x ++ codes "q" ∷ [])
+lines_after_descriptor number hertz x = codes "g" ∷ rate_line hertz ∷ setting_script_line ∷ tone_line number
+    ∷ (groups 250 x ++ codes "q" ∷ [])
 
 unfoldable pub generated_lines : ℕ → List (List ℕ)
 generated_lines number =

@@ -20,7 +20,7 @@ pub struct Gen {
     rate: u32,
     descriptor: Bytes,
     draws: Draws,
-    place: NextLine,
+    next_line: NextLine,
 }
 
 impl Model for Gen {
@@ -30,7 +30,7 @@ impl Model for Gen {
     // The lines that are left.
     ghost Value = { List (List ℕ) };
 
-    ghost view = { λ g. lines_left g.number g.rate g.descriptor g.draws.x g.place };
+    ghost view = { λ g. lines_left g.number g.rate g.descriptor g.draws.x g.next_line };
 }
 
 impl Gen {
@@ -46,7 +46,7 @@ impl Gen {
             rate,
             descriptor: descriptor(count),
             draws,
-            place: NextLine::Feed(0),
+            next_line: NextLine::Feed(0),
         }
     }
 
@@ -57,11 +57,17 @@ impl Gen {
             ((self.old ≡ []) × (self.new ≡ []) × (text.new ≡ text.old)) }
     {
         let bytes = self.descriptor.as_bytes();
-        let step = step(self.number, self.rate, bytes, &mut self.draws, self.place);
-        let Some((line, place)) = step else {
+        let step = step(
+            self.number,
+            self.rate,
+            bytes,
+            &mut self.draws,
+            self.next_line,
+        );
+        let Some((line, next_line)) = step else {
             return false;
         };
-        self.place = place;
+        self.next_line = next_line;
         text.clear();
         match text.try_extend_from_slice(line.as_bytes()) {
             Ok(()) => true,
@@ -70,20 +76,20 @@ impl Gen {
     }
 }
 
-// The line of a place, and the place after it; None after the last.
+// The line that is next, and which is next after it; None after the last.
 fn step(
     number: u32,
     rate: u32,
     bytes: &[u8],
     draws: &mut Draws,
-    place: NextLine,
+    next_line: NextLine,
 ) -> Option<(LineText, NextLine)>
     requires { length bytes.now ≤ 1024 }
     ensures { MatchOption result
-        ((lines_left number rate bytes.now draws.old.x place ≡ []) × (draws.new ≡ draws.old))
-        (λ next. lines_left number rate bytes.now draws.old.x place ≡ next.0 ∷ lines_left number rate bytes.now draws.new.x next.1) }
+        ((lines_left number rate bytes.now draws.old.x next_line ≡ []) × (draws.new ≡ draws.old))
+        (λ next. lines_left number rate bytes.now draws.old.x next_line ≡ next.0 ∷ lines_left number rate bytes.now draws.new.x next.1) }
 {
-    match place {
+    match next_line {
         NextLine::Feed(fed) => Some(feed(bytes, fed)),
         NextLine::Rate => Some((rate_line(rate), NextLine::Setting)),
         NextLine::Setting => Some((fixed_line(b"c 010b010001000000"), NextLine::Tone)),

@@ -7,7 +7,7 @@ use crate::draws::Draws;
 use crate::lines::{LineText, deviation_line, fixed_line, run_line};
 use crate::next_line::{Group, NextLine};
 
-/// Draws the next of so many groups: its first line, and the place after it. After the last group
+/// Draws the next of so many groups: its first line, and which is next after it. After the last group
 /// is the report.
 pub fn next_group(draws: &mut Draws, count: u8) -> (LineText, NextLine)
     ensures { (number hertz : ℕ) (bytes : List ℕ)

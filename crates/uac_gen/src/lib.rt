@@ -11,7 +11,7 @@ mod generator;
 mod groups;
 /// The lines' texts.
 mod lines;
-/// The places that a script has come to.
+/// What a script writes next.
 mod next_line;
 /// The script as a source of bytes.
 mod source;

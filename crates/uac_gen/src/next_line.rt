@@ -1,4 +1,4 @@
-// The places that a script has come to, each named for its next line.
+// What a script writes next.
 ghost use Rattle.std.specs.Prelude.{◌<◌};
 
 /// What was drawn for the group that is being written, and how many groups come after it.

@@ -17,7 +17,7 @@ pub struct GenSource {
     script: Gen,
     // The line that is handed out, without its newline.
     line: ArrayVec<u8, 4096>,
-    // The place of the next byte in it. At its length the newline is due; after that the next line.
+    // The index of the next byte in it. At its length the newline is due; after that the next line.
     at: usize,
 }
 
@@ -62,16 +62,16 @@ impl Source for GenSource {
         // A generated script is always there to be taken.
         ensures steady { IsOk result }
     {
-        let at = next_place(&mut self.script, &mut self.line, self.at);
+        let at = next_byte(&mut self.script, &mut self.line, self.at);
         let count = copy_rest(self.line.as_slice(), at, into);
         self.at = at + count;
         Ok(count)
     }
 }
 
-// The place of the next byte, in this line or at the front of the next. It is after the newline
+// The index of the next byte, in this line or at the front of the next. It is after the newline
 // only where no line is left.
-fn next_place(script: &mut Gen, line: &mut ArrayVec<u8, 4096>, at: usize) -> usize
+fn next_byte(script: &mut Gen, line: &mut ArrayVec<u8, 4096>, at: usize) -> usize
     requires { at ≤ length line.old.items + 1 }
     ensures same { drop at (line.old.items ++ 10 ∷ []) ++ with_newlines script.old
         ≡ drop result (line.new.items ++ 10 ∷ []) ++ with_newlines script.new }
@@ -87,10 +87,10 @@ fn next_place(script: &mut Gen, line: &mut ArrayVec<u8, 4096>, at: usize) -> usi
     at
 }
 
-// Copies bytes of the line with its newline, from this place on, to the front of `into`: at least
-// one, unless the place is after the newline. Returns how many.
+// Copies bytes of the line with its newline, from this byte on, to the front of `into`: at least
+// one, unless that is after the newline. Returns how many.
 fn copy_rest(line: &[u8], at: usize, into: &mut [u8]) -> usize
-    requires place { at ≤ length line.now + 1 }
+    requires byte { at ≤ length line.now + 1 }
     requires room { 0 < length into.old }
     ensures moved { drop at (line.now ++ 10 ∷ []) ≡ take result into.new ++ drop (at + result) (line.now ++ 10 ∷ []) }
     ensures fits { result ≤ length into.new }

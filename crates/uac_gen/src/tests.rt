@@ -4,7 +4,7 @@ use arrayvec::ArrayVec;
 use std::process::Abort;
 use uac_edges::Source;
 
-// The lines of this place, from 0, in the script of 1.
+// The lines of this index, from 0, in the script of 1.
 const KNOWN: [(u32, &[u8]); 6] = [
     (
         7,
@@ -35,9 +35,9 @@ fn expect(rt: &impl Abort, number: u32, lines: u32, text: u32) {
         if !script.next(&mut line) {
             break;
         }
-        for (place, known) in KNOWN {
-            if number == 1 && place == count {
-                assert_eq!(rt; line.as_slice(), known, "at line {place}");
+        for (index, known) in KNOWN {
+            if number == 1 && index == count {
+                assert_eq!(rt; line.as_slice(), known, "at line {index}");
             }
         }
         sum = mix(mix(sum, line.as_slice()), b"\n");

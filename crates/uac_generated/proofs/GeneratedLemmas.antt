@@ -9,7 +9,7 @@ use Rattle.uac_units.specs.Hearing.{Reading}
 use Rattle.uac_topology.specs.Function.{FunctionFields}
 use Rattle.uac_request.specs.Requests.{setup_of}
 use Rattle.uac_script.specs.Phrase.{PhraseMark, Phrase, control_line, deviate_line, go_line, noise_tone, report_line, microframes_line, track_line}
-use Rattle.uac_script.specs.LineReading.{answer}
+use Rattle.uac_script.specs.LineParsing.{answer}
 use Rattle.uac_transcript.specs.Transcript.{Said}
 use Rattle.uac_running.specs.RunningWorld.{RunningWorld, at_start, with_deviation, with_track}
 use Rattle.uac_running.specs.RunningNames.{has_domain, has_out, names_stream}
@@ -17,19 +17,19 @@ use Rattle.uac_running.specs.Events.{microframes}
 use Rattle.uac_running.specs.RunningLines.{ready_line, report_lines}
 use Rattle.uac_running.specs.RunningTransfers.{transfer, after_transfer}
 use Rattle.uac_bus.specs.BusWorld.{BusWorld, describing, done, finish_of, running, silently, start, step, step_telling}
-use Rattle.uac_bus.proofs.Stepping.{unless_holds}
+use Rattle.uac_bus.proofs.BusWorldLemmas.{unless_holds}
 use Rattle.uac_steady.specs.Scripts.{after_texts, is_steady_in}
 use Rattle.uac_gen.specs.Descriptor.{descriptor_of}
-use Rattle.uac_gen.specs.Generator.{lines_after_descriptor, deviation_line, draw, feed_lines, generated_lines, group_lines, groups, next_x, rate_line, rest_line, run_line, setting_line, tone_line, unpacked_lines, unreported_lines}
+use Rattle.uac_gen.specs.Generator.{lines_after_descriptor, deviation_line, draw, feed_lines, generated_lines, group_lines, groups, next_x, rate_line, rest_line, run_line, setting_script_line, tone_line, unpacked_lines, unreported_lines}
 use Rattle.uac_gen.specs.GeneratedScript.{script_of}
 use Rattle.uac_generated.specs.Generated.{GeneratedScriptsAreDone, GeneratedScriptsAreScripts, GeneratedScriptsAreSteady, IsLineOfScript}
-use Rattle.uac_generated.proofs.Feeding.{all_fed, function_at, gone_is}
-use Rattle.uac_generated.proofs.Grammatical.{all_bytes, none_faulty}
-use Rattle.uac_generated.proofs.InRow.{Reaches, nothing, then_line, then_lines}
-use Rattle.uac_generated.proofs.Narrow.{IsNarrow, IsPrinted, all_few, size_of_few}
-use Rattle.uac_generated.proofs.OneStream.{the_stream, domains_are, has_its_out, has_one, streams_are, unpacked_placed, unreported_placed}
-use Rattle.uac_generated.proofs.Playing.{IsPlaying, all_come, all_lost, goes_off, rate_set, setting_set, some_come, starts, steady_now, tracks_on}
-use Rattle.uac_generated.proofs.Spelt.{at_each, deviation_said, drawn_off, drawn_slight, go_said, no_packet, no_report, rate_bytes, rate_said, rate_setup, report_said, setting_said, setting_setup, tone_said, unmarked_said, unpacked_said, unreported_said}
+use Rattle.uac_generated.proofs.GeneratedDescriptorLemmas.{all_fed, function_at, gone_is}
+use Rattle.uac_generated.proofs.GrammarLemmas.{all_bytes, none_faulty}
+use Rattle.uac_generated.proofs.BusWorldLineLemmas.{Reaches, nothing, then_line, then_lines}
+use Rattle.uac_generated.proofs.GeneratorLineLemmas.{IsNarrow, IsPrinted, all_few, size_of_few}
+use Rattle.uac_generated.proofs.DescriptorStreamLemmas.{the_stream, domains_are, has_its_out, has_one, streams_are, unpacked_placed, unreported_placed}
+use Rattle.uac_generated.proofs.GeneratedStreamLemmas.{IsPlaying, all_come, all_lost, goes_off, rate_set, setting_set, some_come, starts, steady_now, tracks_on}
+use Rattle.uac_generated.proofs.PhraseLemmas.{at_each, deviation_said, drawn_off, drawn_slight, go_said, no_packet, no_report, rate_bytes, rate_said, rate_setup, report_said, setting_said, setting_setup, tone_said, unmarked_said, unpacked_said, unreported_said}
 
 -- a running device of which this holds
 abbrev Is : (RunningWorld → Type 0) → BusWorld → Type 0
@@ -154,18 +154,18 @@ module _ (function : FunctionFields) (streams : function.streams ≡ the_stream 
   unfolding step transfer
   transfer_is setup sent r = refl
 
-  after_end : (number place x : ℕ) (r : RunningWorld) → number < 2 ^ 32 → place < 12 → Plays 0 0 r
-      → Reaches (rate_line (slice_index twelve_rates place) ∷ setting_line ∷ tone_line number ∷ (groups 250 x ++ codes "q" ∷ [])) (running r) Between
-  after_end number place x r below placed is =
-      let rated : RunningWorld = after_transfer (setup_of rate_setup) (rate_bytes place) r in
+  after_end : (number index x : ℕ) (r : RunningWorld) → number < 2 ^ 32 → index < 12 → Plays 0 0 r
+      → Reaches (rate_line (slice_index twelve_rates index) ∷ setting_script_line ∷ tone_line number ∷ (groups 250 x ++ codes "q" ∷ [])) (running r) Between
+  after_end number index x r below placed is =
+      let rated : RunningWorld = after_transfer (setup_of rate_setup) (rate_bytes index) r in
       let set : RunningWorld = after_transfer (setup_of setting_setup) [] rated in
       let toned : RunningWorld = with_track 1 (Noise number) set in
-      let rated_is = rate_set function 0 (rate_bytes place) r is in
+      let rated_is = rate_set function 0 (rate_bytes index) r is in
       let set_is = setting_set function 0 (has_one function streams) rated rated_is in
       let lines : List (List ℕ) = groups 250 x ++ codes "q" ∷ [] in
-      then_line (rate_line (slice_index twelve_rates place)) (setting_line ∷ tone_line number ∷ lines) (control_line rate_setup (rate_bytes place)) (running r)
-      (running rated) (transfer (setup_of rate_setup) (rate_bytes place) r).lines Between (rate_said place placed) (transfer_is rate_setup (rate_bytes place) r)
-      (then_line setting_line (tone_line number ∷ lines) (control_line setting_setup []) (running rated) (running set)
+      then_line (rate_line (slice_index twelve_rates index)) (setting_script_line ∷ tone_line number ∷ lines) (control_line rate_setup (rate_bytes index)) (running r)
+      (running rated) (transfer (setup_of rate_setup) (rate_bytes index) r).lines Between (rate_said index placed) (transfer_is rate_setup (rate_bytes index) r)
+      (then_line setting_script_line (tone_line number ∷ lines) (control_line setting_setup []) (running rated) (running set)
       (transfer (setup_of setting_setup) [] rated).lines Between setting_said (transfer_is setting_setup [] rated)
       (then_line (tone_line number) lines (track_line (pos 1) (noise_tone (pos number))) (running set) (running toned) [] Between (tone_said number below)
       (tracks_is set (of_playing 0 0 set set_is) number)
@@ -178,16 +178,16 @@ module _ (function : FunctionFields) (streams : function.streams ≡ the_stream 
 abbrev Ends : ℕ → BusWorld → Type 0
 Ends d = Is (IsPlaying (function_at d) 0 0 0)
 
-whole : (number d place x : ℕ) (shown : List Reading) → number < 2 ^ 32 → d < 30 → place < 12
-    → Reaches (feed_lines (descriptor_of (1 + d)) ++ lines_after_descriptor number (slice_index twelve_rates place) x) (start shown) (Ends d)
-whole number d place x shown below units placed =
+whole : (number d index x : ℕ) (shown : List Reading) → number < 2 ^ 32 → d < 30 → index < 12
+    → Reaches (feed_lines (descriptor_of (1 + d)) ++ lines_after_descriptor number (slice_index twelve_rates index) x) (start shown) (Ends d)
+whole number d index x shown below units placed =
     let bytes : List ℕ = descriptor_of (1 + d) in
     let described : BusWorld = describing bytes shown in
-    let lines : List (List ℕ) = lines_after_descriptor number (slice_index twelve_rates place) x in
+    let lines : List (List ℕ) = lines_after_descriptor number (slice_index twelve_rates index) x in
     let begun : RunningWorld = at_start bytes (function_at d) shown in
     let following : Reaches lines described (Ends d) =
-    then_line (codes "g") (rate_line (slice_index twelve_rates place) ∷ setting_line ∷ tone_line number ∷ (groups 250 x ++ codes "q" ∷ [])) go_line described (running begun) (ready_line (function_at d) ∷ []) (Ends d) go_said (gone_is d shown units)
-    (after_end (function_at d) (streams_are d units) (domains_are d units) number place x begun below placed (starts (function_at d) 0 bytes shown)) in
+    then_line (codes "g") (rate_line (slice_index twelve_rates index) ∷ setting_script_line ∷ tone_line number ∷ (groups 250 x ++ codes "q" ∷ [])) go_line described (running begun) (ready_line (function_at d) ∷ []) (Ends d) go_said (gone_is d shown units)
+    (after_end (function_at d) (streams_are d units) (domains_are d units) number index x begun below placed (starts (function_at d) 0 bytes shown)) in
     then_lines lines (λ w. w ≡ described) (Ends d) (λ v same. subst (λ (w : BusWorld). Reaches lines w (Ends d)) (sym same) following) (feed_lines bytes)
     (describing [] shown) (all_fed bytes shown (none_faulty d units) (all_bytes d units) (λ w. w ≡ described) refl)
 

@@ -1,6 +1,6 @@
-pub mod Parts
+pub mod LittleLemmas
 pub mod RowLemmas
-pub mod Verdicts
-pub mod Readings
+pub mod VerdictLemmas
+pub mod ReaderKeptLemmas
 pub mod Worked
 pub mod StopLemmas

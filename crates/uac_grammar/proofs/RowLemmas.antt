@@ -3,9 +3,9 @@ use Rattle.std.proofs.Common.{◌≡◌, ◌≤◌, ◌<◌, ℕ, true, false, L
 use Rattle.std.specs.Prelude.{slice_index}
 use Rattle.std.proofs.lemmas.Bool.Decides.{nat_tests}
 use Rattle.uac_descriptor.specs.Layout.{IsWhole, is_parting}
-use Rattle.uac_descriptor.specs.BlockReading.{is_whole, block_of, has_length, fields}
+use Rattle.uac_descriptor.specs.BlockParsing.{is_whole, block_of, has_length, fields}
 -- under a name without a hyphen, as `using(..)` wants it
-pub use Rattle.uac_descriptor.proofs.SpeltAsRead.{IsWhole-is_whole as whole_is}
+pub use Rattle.uac_descriptor.proofs.BlockParsingLemmas.{IsWhole-is_whole as whole_is}
 use Rattle.uac_descriptor.specs.LayoutRows as rows
 use Rattle.uac_grammar.specs.Row.{read_row, has_row}
 use Rattle.uac_descriptor.specs.LayoutRows.{Row, row_beside, rows_of, row_in, row_of, control_row, streaming_row, class_endpoint_row}

@@ -1,6 +1,6 @@
 -- What bytes show, read by hand and computed by the checker.
 use Rattle.std.proofs.Common.{◌≡◌, ℕ, List, [], ◌∷◌, Option, None, Some, refl}
-use Rattle.uac_descriptor.specs.BlockReading.{block_of, fields, is_whole, has_length}
+use Rattle.uac_descriptor.specs.BlockParsing.{block_of, fields, is_whole, has_length}
 use Rattle.uac_descriptor.specs.LayoutRows.{row_of, row_in}
 use Rattle.uac_sentence.specs.Cutting.{chop, chop_within}
 use Rattle.uac_sentence.specs.Fault.{faults_from}

@@ -1,6 +1,6 @@
 -- What a reader knows of its input, and what holds of the parts that it keeps.
 use Rattle.std.specs.Prelude.{◌≡◌, ◌≢◌, ◌≤◌, ◌<◌, ℕ, ◌+◌, List, ◌++◌, length, slice_index, Option, Some, None}
-use Rattle.uac_descriptor.specs.BlockReading.{AreBytes}
+use Rattle.uac_descriptor.specs.BlockParsing.{AreBytes}
 use Rattle.uac_descriptor.specs.declared.block.Block.{Block}
 use Rattle.uac_sentence.specs.Progress.{HasRead}
 use Rattle.uac_sentence.specs.Sentence.{spellings}

@@ -1,7 +1,7 @@
 -- The block that a row of the layouts reads.
 use Rattle.std.specs.Prelude.{ℕ, Bool, ◌==◌, ◌||◌, if◌then◌else◌, List, Option, Some, None}
 use Rattle.uac_descriptor.specs.declared.block.Block as block
-use Rattle.uac_descriptor.specs.BlockReading.{has_length, fields}
+use Rattle.uac_descriptor.specs.BlockParsing.{has_length, fields}
 use Rattle.uac_descriptor.specs.LayoutRows.{Row}
 use Rattle.uac_descriptor.specs.Standard.{CONFIGURATION, INTERFACE, ENDPOINT, INTERFACE_ASSOCIATION, CS_INTERFACE, CS_ENDPOINT}
 

@@ -1,6 +1,6 @@
 -- What a verdict on the bytes of a block says, of all that may follow them.
 use Rattle.std.specs.Prelude.{◌≡◌, ℕ, ◌+◌, Bool, true, false, List, [], ◌∷◌, ◌++◌, length, max, Some, None}
-use Rattle.uac_descriptor.specs.BlockReading.{block_of}
+use Rattle.uac_descriptor.specs.BlockParsing.{block_of}
 use Rattle.uac_descriptor.specs.declared.block.Block.{Block}
 use Rattle.uac_sentence.specs.Cutting.{IsPiece}
 use Rattle.uac_sentence.specs.Fault.{IsShown, faults_from}

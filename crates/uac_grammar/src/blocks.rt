@@ -1,7 +1,7 @@
 // One block from its bytes: the row by context, type and subtype, then the row's length and fields.
 ghost use Rattle.std.specs.Prelude.{◌≡◌, IfOk, slice_index, drop, false, Some};
 ghost use Rattle.uac_descriptor.specs.Layout.{IsWhole};
-ghost use Rattle.uac_descriptor.specs.BlockReading.{block_of, is_whole};
+ghost use Rattle.uac_descriptor.specs.BlockParsing.{block_of, is_whole};
 ghost use Rattle.uac_descriptor.specs.LayoutRows as rows;
 ghost use Rattle.uac_descriptor.specs.declared.context.Context.TheVariants as contexts;
 ghost use Rattle.uac_descriptor.specs.LayoutRows.{control_row, streaming_row, class_endpoint_row, row_in};
@@ -79,7 +79,7 @@ pub(crate) fn read_whole(alloc: Global, bytes: &[u8]) -> Result<Block, NoMemory>
 }
 
 /// The first byte says how many there are, at least 2.
-#[tactic(auto, unfolding(uac_descriptor::specs::BlockReading::is_whole))]
+#[tactic(auto, unfolding(uac_descriptor::specs::BlockParsing::is_whole))]
 fn is_whole(bytes: &[u8]) -> bool
     ensures { result ≡ is_whole bytes.now }
 {

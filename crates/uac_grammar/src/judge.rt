@@ -1,6 +1,6 @@
 // What the bytes of a block come to, and the end of the input.
 ghost use Rattle.std.specs.Prelude.{◌≡◌, ◌<◌, ◌≤◌, length, slice_index, MatchResult, Some};
-ghost use Rattle.uac_descriptor.specs.BlockReading.{block_of};
+ghost use Rattle.uac_descriptor.specs.BlockParsing.{block_of};
 ghost use Rattle.uac_sentence.specs.Cutting.{IsPiece};
 ghost use Rattle.uac_sentence.specs.Fault.{faults_from};
 ghost use Rattle.uac_sentence.specs.Grammar.{grammar};

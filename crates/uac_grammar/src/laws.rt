@@ -1,7 +1,7 @@
 // Laws of the definitions that the reader's contracts cite. The functions do nothing: each contract is
 // the law.
 ghost use Rattle.std.specs.Prelude.{◌≡◌, ◌↔◌, ℕ, List, ◌++◌, length, flat_map, Some, None};
-ghost use Rattle.uac_descriptor.specs.BlockReading.{AreBytes};
+ghost use Rattle.uac_descriptor.specs.BlockParsing.{AreBytes};
 ghost use Rattle.uac_descriptor.specs.Spelling.{spelling};
 ghost use Rattle.uac_descriptor.specs.declared.block.Block.{Block};
 ghost use Rattle.uac_sentence.specs.Fault.{IsShown};

@@ -16,17 +16,17 @@ use Rattle.uac_entities.specs.declared.entity.Entity.{Entity}
 use Rattle.uac_entities.specs.declared.entity.EntityKind.{EntityKind}
 use Rattle.uac_entities.specs.declared.entity.EntityKind.TheVariants as kind
 use Rattle.uac_topology_rules.specs.Links.{is_clock, signal_links, signal_sources}
-use Rattle.uac_topology_rules.specs.Table.{at, nothing, place_of}
-use Rattle.uac_topology_rules.proofs.Found.{any_at}
+use Rattle.uac_topology_rules.specs.Table.{at, nothing, index_of}
+use Rattle.uac_topology_rules.proofs.ListFindLemmas.{any_at}
 use Rattle.uac_graph.specs.Fitness.{IsSignalGraph}
 use Rattle.uac_graph.specs.Meaning.{entity}
 use Rattle.uac_graph.specs.Needs.{depends_on, is_unit, needed_units, reaches, unit_count}
 use Rattle.uac_graph.specs.Orders.{IsOrderOf}
-use Rattle.uac_graph.proofs.Links.{source_ends}
-use Rattle.uac_graph.proofs.Lookups.{id_at}
-use Rattle.uac_graph.proofs.Reaching.{links_some}
-use Rattle.uac_graph.proofs.Ticking.{entity_itself}
-use Rattle.uac_graph.proofs.Walking.{signal_below}
+use Rattle.uac_graph.proofs.LinksLemmas.{source_ends}
+use Rattle.uac_graph.proofs.WiringLemmas.{id_at}
+use Rattle.uac_graph.proofs.MeaningReachLemmas.{links_some}
+use Rattle.uac_graph.proofs.WiringTerminalLemmas.{entity_itself}
+use Rattle.uac_graph.proofs.WiringWireLemmas.{signal_below}
 
 -- ---- lists of numbers, each once
 
@@ -77,9 +77,9 @@ any_kept t q ns = any-filter_same (eqb q) t (t q) (λ n same. ap t (sym (eqb-tru
 
 -- ---- the units of an order
 
--- how many units stand in the order from a place on
+-- how many units stand in the order from an index on
 abbrev pub units_left : List Entity → List ℕ → ℕ → ℕ
-units_left entities places from = length (filter (λ place. is_unit (at entities place).kind) (drop from places))
+units_left entities indices from = length (filter (λ index. is_unit (at entities index).kind) (drop from indices))
 
 more : {X : Type 0} (u : X → Bool) (x : X) (xs : List X) → length (filter u (x ∷ xs)) ≡ (if u x then 1 else 0) + length (filter u xs)
 more u x xs = by_test (u x)
@@ -89,11 +89,11 @@ more u x xs = by_test (u x)
     by_test false = omega arith
 
 -- the next of them, and those after it
-pub units_next : (entities : List Entity) (places : List ℕ) (i : ℕ) → i < length places
-    → units_left entities places i ≡ unit_count (at entities (get_or places i 0)).kind + units_left entities places (i + 1)
-units_next entities places i below =
-    let u : ℕ → Bool = λ place. is_unit (at entities place).kind in
-    ap (λ (ps : List ℕ). length (filter u ps)) (drop_more places i 0 below) ∙ more u (get_or places i 0) (drop (i + 1) places)
+pub units_next : (entities : List Entity) (indices : List ℕ) (i : ℕ) → i < length indices
+    → units_left entities indices i ≡ unit_count (at entities (get_or indices i 0)).kind + units_left entities indices (i + 1)
+units_next entities indices i below =
+    let u : ℕ → Bool = λ index. is_unit (at entities index).kind in
+    ap (λ (ps : List ℕ). length (filter u ps)) (drop_more indices i 0 below) ∙ more u (get_or indices i 0) (drop (i + 1) indices)
 
 -- ---- the ids of the needed units
 
@@ -119,7 +119,7 @@ module _ (entities : List Entity) (domain : ℕ) (sound : IsSignalGraph entities
   unfolding at
   ids_once =
       distinct_by (λ (e : Entity). e.id) entities nothing (λ i j before below same.
-      let one = sym (sound.distinct i (omega (arith, before, below))) ∙ ap (place_of entities) same ∙ sound.distinct j below in
+      let one = sym (sound.distinct i (omega (arith, before, below))) ∙ ap (index_of entities) same ∙ sound.distinct j below in
       absurd (omega (arith, one, before)))
 
   -- a unit's id is an entity's
@@ -128,8 +128,8 @@ module _ (entities : List Entity) (domain : ℕ) (sound : IsSignalGraph entities
   unit_there id unit =
       let below = signal_below entities id (unit_signal (entity entities id).kind unit) in
       any_map (eqb id) (λ (e : Entity). e.id) entities
-      ∙ list_any_at (λ (e : Entity). eqb id e.id) entities (place_of entities id) nothing below
-      (eq-eqb id (at entities (place_of entities id)).id (sym (id_at entities id below)))
+      ∙ list_any_at (λ (e : Entity). eqb id e.id) entities (index_of entities id) nothing below
+      (eq-eqb id (at entities (index_of entities id)).id (sym (id_at entities id below)))
 
   each_entity : (xs : List Entity) → ((k : ℕ) → k < length xs → entity entities (get_or xs k nothing).id ≡ get_or xs k nothing)
       → AllByRecursion (λ (e : Entity). needed_named e.id ≡ (is_unit e.kind && depends_on entities domain e.id)) xs
@@ -171,28 +171,28 @@ needed_apart entities domain sound = needed_once entities domain sound
 
 -- ---- the same along the domain's order
 
-module _ (entities : List Entity) (domain : ℕ) (places : List ℕ) (sound : IsSignalGraph entities) (order : IsOrderOf entities domain places) where
+module _ (entities : List Entity) (domain : ℕ) (indices : List ℕ) (sound : IsSignalGraph entities) (order : IsOrderOf entities domain indices) where
   abbrev id_of : ℕ → ℕ
-  id_of place = (at entities place).id
+  id_of index = (at entities index).id
 
   abbrev unit_id : ℕ → Bool
   unit_id id = is_unit (entity entities id).kind
 
   abbrev ordered : List ℕ
-  ordered = map id_of places
+  ordered = map id_of indices
 
   ordered_once : IsDistinct eqb ordered
   ordered_once =
-      distinct_by id_of places 0 (λ i j before below same.
+      distinct_by id_of indices 0 (λ i j before below same.
       order.order.apart i j before below
-      (sym (sound.distinct (get_or places i 0) (order.order.inside i 0 (omega (arith, before, below))))
-      ∙ ap (place_of entities) same ∙ sound.distinct (get_or places j 0) (order.order.inside j 0 below)))
+      (sym (sound.distinct (get_or indices i 0) (order.order.inside i 0 (omega (arith, before, below))))
+      ∙ ap (index_of entities) same ∙ sound.distinct (get_or indices j 0) (order.order.inside j 0 below)))
 
   -- an id is in the order exactly where the domain depends on it
   ordered_depended : (id : ℕ) → list_any (eqb id) ordered ≡ depends_on entities domain id
   ordered_depended id =
-      any_map (eqb id) id_of places
-      ∙ (λ j. list_any (λ place. nat_eq_equiv.symm id (id_of place) j) places)
+      any_map (eqb id) id_of indices
+      ∙ (λ j. list_any (λ index. nat_eq_equiv.symm id (id_of index) j) indices)
       ∙ order.all id
 
   same_units : (id : ℕ) → list_any (eqb id) (filter unit_id ordered) ≡ list_any (eqb id) (needed_units entities domain)
@@ -200,31 +200,31 @@ module _ (entities : List Entity) (domain : ℕ) (places : List ℕ) (sound : Is
       any_kept unit_id id ordered ∙ ap (λ (b : Bool). unit_id id && b) (ordered_depended id)
       ∙ sym (any_needed entities domain sound id) ∙ ap (list_any (eqb id)) (needed_ids entities domain sound)
 
-  each_place : (xs : List ℕ) → All (λ place. place < length entities) xs
-      → AllByRecursion (λ place. unit_id (id_of place) ≡ is_unit (at entities place).kind) xs
-  each_place [] inside = tt
-  each_place (place ∷ xs) inside = (
-    ap (λ (e : Entity). is_unit e.kind) (entity_itself entities place sound (inside 0 0 (omega arith))),
-    each_place xs (λ k d below. inside (suc k) d (omega arith)),
+  each_index : (xs : List ℕ) → All (λ index. index < length entities) xs
+      → AllByRecursion (λ index. unit_id (id_of index) ≡ is_unit (at entities index).kind) xs
+  each_index [] inside = tt
+  each_index (index ∷ xs) inside = (
+    ap (λ (e : Entity). is_unit e.kind) (entity_itself entities index sound (inside 0 0 (omega arith))),
+    each_index xs (λ k d below. inside (suc k) d (omega arith)),
   )
 
   -- the units in a domain's order are as many as the domain needs
-  needed_count : units_left entities places 0 ≡ length (needed_units entities domain)
+  needed_count : units_left entities indices 0 ≡ length (needed_units entities domain)
   needed_count =
-      let u : ℕ → Bool = λ place. is_unit (at entities place).kind in
-      sym (length-map (filter u places) id_of)
-      ∙ ap length (sym (filter_mapped unit_id id_of u places (each_place places order.order.inside)))
+      let u : ℕ → Bool = λ index. is_unit (at entities index).kind in
+      sym (length-map (filter u indices) id_of)
+      ∙ ap length (sym (filter_mapped unit_id id_of u indices (each_index indices order.order.inside)))
       ∙ length-from_same_keys nat_eq_equiv (filter unit_id ordered) (needed_units entities domain) (distinct_kept unit_id ordered ordered_once)
       (needed_once entities domain sound) same_units
 
 -- how many units the order has
-pub all_units : (entities : List Entity) (domain : ℕ) (places : List ℕ) → IsSignalGraph entities → IsOrderOf entities domain places
-    → units_left entities places 0 ≡ length (needed_units entities domain)
-all_units entities domain places sound order = needed_count entities domain places sound order
+pub all_units : (entities : List Entity) (domain : ℕ) (indices : List ℕ) → IsSignalGraph entities → IsOrderOf entities domain indices
+    → units_left entities indices 0 ≡ length (needed_units entities domain)
+all_units entities domain indices sound order = needed_count entities domain indices sound order
 
 -- none is left past its end
-pub units_end : (entities : List Entity) (places : List ℕ) (i : ℕ) → length places ≤ i → units_left entities places i ≡ 0
-units_end entities places i past = ap (λ (ps : List ℕ). length (filter (λ place. is_unit (at entities place).kind) ps)) (drop_all i places past)
+pub units_end : (entities : List Entity) (indices : List ℕ) (i : ℕ) → length indices ≤ i → units_left entities indices i ≡ 0
+units_end entities indices i past = ap (λ (ps : List ℕ). length (filter (λ index. is_unit (at entities index).kind) ps)) (drop_all i indices past)
 
 -- a domain needs no more units than there are entities
 pub needed_few : (entities : List Entity) (domain : ℕ) → length (needed_units entities domain) ≤ length entities
@@ -239,13 +239,13 @@ needed_few entities domain =
 source_loud : (entities : List Entity) (id k : ℕ) → IsSignalGraph entities → is_clock (entity entities id).kind ≡ false
     → k < length (signal_sources (entity entities id)) → is_clock (entity entities (get_or (signal_sources (entity entities id)) k 0)).kind ≡ false
 unfolding entity
-source_loud entities id k sound signal below = sound.heard (place_of entities id) (signal_below entities id signal) k 0 below
+source_loud entities id k sound signal below = sound.heard (index_of entities id) (signal_below entities id signal) k 0 below
 
 -- where no walk of so many links leads on, none reaches further
 reached_within : (entities : List Entity) (m n id other : ℕ) → IsSignalGraph entities → is_clock (entity entities id).kind ≡ false
-    → has_walk (signal_links entities) m (place_of entities id) ≡ false → reaches entities n id other ≡ true → reaches entities m id other ≡ true
+    → has_walk (signal_links entities) m (index_of entities id) ≡ false → reaches entities n id other ≡ true → reaches entities m id other ≡ true
 unfolding reaches
-reached_within entities zero n id other sound signal ends reached = absurd (let none = links_some (signal_links entities) 0 (place_of entities id) ends in omega arith)
+reached_within entities zero n id other sound signal ends reached = absurd (let none = links_some (signal_links entities) 0 (index_of entities id) ends in omega arith)
 reached_within entities (suc m) zero id other sound signal ends reached =
     ap (λ (b : Bool). b || list_any (λ s. reaches entities m s other) (signal_sources (entity entities id))) reached
 reached_within entities (suc m) (suc n) id other sound signal ends reached =
@@ -266,7 +266,7 @@ reached_within entities (suc m) (suc n) id other sound signal ends reached =
 pub reached_by_any : (entities : List Entity) (n id other : ℕ) → IsSignalGraph entities → is_clock (entity entities id).kind ≡ false
     → reaches entities n id other ≡ true → reaches entities (length entities) id other ≡ true
 reached_by_any entities n id other sound signal =
-    reached_within entities (length entities) n id other sound signal (sound.acyclic (place_of entities id) (signal_below entities id signal))
+    reached_within entities (length entities) n id other sound signal (sound.acyclic (index_of entities id) (signal_below entities id signal))
 
 -- an id of those that pass is one of which the test holds
 of_passing : (test : ℕ → Bool) (kind : Entity → Bool) (id : ℕ) (entities : List Entity)

@@ -6,7 +6,7 @@ use Rattle.uac_entities.specs.declared.entity.EntityKind.{EntityKind}
 use Rattle.uac_entities.specs.declared.entity.EntityKind.TheVariants as kind
 use Rattle.uac_gain.specs.Gain.{decibel_gain, raised_gain}
 use Rattle.uac_topology_rules.specs.Links.{signal_sources}
-use Rattle.uac_topology_rules.specs.Table.{at, place_of}
+use Rattle.uac_topology_rules.specs.Table.{at, index_of}
 use Rattle.uac_graph.specs.GraphControls.{Controls}
 use Rattle.uac_graph.specs.Meaning.{entity, frame_of, meaning, samples, samples_by}
 use Rattle.uac_graph.specs.Needs.{depends_on, needed_units, reaches}
@@ -50,29 +50,29 @@ set i s c value others id selector channel = if eqb i id && eqb s selector && eq
 
 -- full volume
 passed : meaning graph unset (given (pos 1) (negsuc 0) (pos 65536)) 4 ≡ pos 65536 ∷ []
-unfolding graph unset given meaning samples samples_by entity frame_of at place_of signal_sources decibel_gain raised_gain
+unfolding graph unset given meaning samples samples_by entity frame_of at index_of signal_sources decibel_gain raised_gain
 passed = refl
 
 -- one decibel down on the channel, and on the master too; each rounds down
 channel_down : meaning graph (set 6 2 1 (negsuc 255) unset) (given (pos 1) (negsuc 0) (pos 65536)) 4 ≡ pos 58409 ∷ []
-unfolding graph unset set given meaning samples samples_by entity frame_of at place_of signal_sources decibel_gain raised_gain
+unfolding graph unset set given meaning samples samples_by entity frame_of at index_of signal_sources decibel_gain raised_gain
 channel_down = refl
 
 both_down : meaning graph (set 6 2 0 (negsuc 255) (set 6 2 1 (negsuc 255) unset)) (given (pos 1) (negsuc 0) (pos 65536)) 4 ≡ pos 52057 ∷ []
-unfolding graph unset set given meaning samples samples_by entity frame_of at place_of signal_sources decibel_gain raised_gain
+unfolding graph unset set given meaning samples samples_by entity frame_of at index_of signal_sources decibel_gain raised_gain
 both_down = refl
 
 least_down : meaning graph (set 6 2 1 (negsuc 255) unset) (given (pos 1) (negsuc 0) (negsuc 0)) 4 ≡ negsuc 0 ∷ []
-unfolding graph unset set given meaning samples samples_by entity frame_of at place_of signal_sources decibel_gain raised_gain
+unfolding graph unset set given meaning samples samples_by entity frame_of at index_of signal_sources decibel_gain raised_gain
 least_down = refl
 
 -- the master's mute silences all channels, a channel's its own alone
 muted : meaning graph (set 3 1 0 (pos 1) unset) (given (pos 1) (negsuc 0) (pos 65536)) 7 ≡ pos 0 ∷ pos 0 ∷ []
-unfolding graph unset set given meaning samples samples_by entity frame_of at place_of signal_sources decibel_gain raised_gain
+unfolding graph unset set given meaning samples samples_by entity frame_of at index_of signal_sources decibel_gain raised_gain
 muted = refl
 
 right_muted : meaning graph (set 3 1 2 (pos 1) unset) (given (pos 1) (negsuc 0) (pos 65536)) 7 ≡ pos 1 ∷ pos 0 ∷ []
-unfolding graph unset set given meaning samples samples_by entity frame_of at place_of signal_sources decibel_gain raised_gain
+unfolding graph unset set given meaning samples samples_by entity frame_of at index_of signal_sources decibel_gain raised_gain
 right_muted = refl
 
 -- of the mixer's eight nodes, numbered by inputs, those of inputs 1 and 2 with output 2 and those of inputs 3 and 4 with output 1 are closed
@@ -80,36 +80,36 @@ half_open : Controls
 half_open = set 8 1 1 (negsuc 32767) (set 8 1 3 (negsuc 32767) (set 8 1 4 (negsuc 32767) (set 8 1 6 (negsuc 32767) unset)))
 
 mixed : meaning graph half_open (given (pos 1000) (pos 1) (pos 65536)) 8 ≡ pos 1001 ∷ pos 1001 ∷ []
-unfolding graph unset set half_open given meaning samples samples_by entity frame_of at place_of signal_sources decibel_gain raised_gain
+unfolding graph unset set half_open given meaning samples samples_by entity frame_of at index_of signal_sources decibel_gain raised_gain
 mixed = refl
 
 one_node_down : meaning graph (set 8 1 0 (negsuc 511) half_open) (given (pos 1000) (pos 1) (pos 65536)) 8 ≡ pos 795 ∷ pos 1001 ∷ []
-unfolding graph unset set half_open given meaning samples samples_by entity frame_of at place_of signal_sources decibel_gain raised_gain
+unfolding graph unset set half_open given meaning samples samples_by entity frame_of at index_of signal_sources decibel_gain raised_gain
 one_node_down = refl
 
 -- the mixer's sum doesn't wrap
 saturated_sum : meaning graph unset (given (pos 2147483647) (pos 1) (pos 65536)) 8 ≡ pos 2147483647 ∷ pos 2147483647 ∷ []
-unfolding graph unset given meaning samples samples_by entity frame_of at place_of signal_sources decibel_gain raised_gain
+unfolding graph unset given meaning samples samples_by entity frame_of at index_of signal_sources decibel_gain raised_gain
 saturated_sum = refl
 
 -- the selector's second pin, and a pin that isn't there
 second_pin : meaning graph (set 9 1 0 (pos 2) unset) (given (pos 3) (negsuc 4) (pos 65536)) 7 ≡ negsuc 3 ∷ negsuc 3 ∷ []
-unfolding graph unset set given meaning samples samples_by entity frame_of at place_of signal_sources decibel_gain raised_gain
+unfolding graph unset set given meaning samples samples_by entity frame_of at index_of signal_sources decibel_gain raised_gain
 second_pin = refl
 
 no_such_pin : meaning graph (set 9 1 0 (pos 3) unset) (given (pos 3) (negsuc 4) (pos 65536)) 7 ≡ pos 3 ∷ negsuc 4 ∷ []
-unfolding graph unset set given meaning samples samples_by entity frame_of at place_of signal_sources decibel_gain raised_gain
+unfolding graph unset set given meaning samples samples_by entity frame_of at index_of signal_sources decibel_gain raised_gain
 no_such_pin = refl
 
 -- what each domain needs
 first_domain : needed_units graph 1 ≡ 6 ∷ []
-unfolding graph needed_units depends_on reaches entity at place_of signal_sources
+unfolding graph needed_units depends_on reaches entity at index_of signal_sources
 first_domain = refl
 
 second_domain : needed_units graph 11 ≡ 3 ∷ 8 ∷ 9 ∷ 10 ∷ []
-unfolding graph needed_units depends_on reaches entity at place_of signal_sources
+unfolding graph needed_units depends_on reaches entity at index_of signal_sources
 second_domain = refl
 
 no_domain : needed_units graph 2 ≡ []
-unfolding graph needed_units depends_on reaches entity at place_of signal_sources
+unfolding graph needed_units depends_on reaches entity at index_of signal_sources
 no_domain = refl

@@ -7,7 +7,7 @@ use Rattle.uac_entities.specs.declared.entity.EntityKind.{EntityKind}
 use Rattle.uac_entities.specs.declared.entity.EntityKind.TheVariants as kind
 use Rattle.uac_topology_rules.specs.Links.{is_clock, signal_sources, signal_links}
 use Rattle.uac_topology_rules.specs.Rules.{is_output}
-use Rattle.uac_topology_rules.specs.Table.{at, place_of}
+use Rattle.uac_topology_rules.specs.Table.{at, index_of}
 use Rattle.uac_store.specs.StoreControls.{pins_of}
 use Rattle.uac_graph.specs.Meaning.{entity}
 
@@ -31,12 +31,12 @@ FitsPins kind.ClockMultiplier channels pins = Unit {0}
 -- a signal graph as the rules leave it: an id names one entity, each source has a wire and is no output terminal, no walk goes
 -- on for ever, a wire has at most 32 channels, and pins fit
 pub record IsSignalGraph (entities : List Entity) : Type 0 where
-  pub distinct : (place : ℕ) → place < length entities → place_of entities (at entities place).id ≡ place
-  pub heard : (place : ℕ) → place < length entities
-      → All (λ s. is_clock (entity entities s).kind ≡ false) (signal_sources (at entities place))
-  pub no_ends : (place : ℕ) → place < length entities
-      → All (λ s. is_output (entity entities s).kind ≡ false) (signal_sources (at entities place))
-  pub acyclic : (place : ℕ) → place < length entities → has_walk (signal_links entities) (length entities) place ≡ false
-  pub most : (place : ℕ) → place < length entities → is_clock (at entities place).kind ≡ false → (at entities place).cluster.channels ≤ 32
-  pub fits : (place : ℕ) → place < length entities
-      → FitsPins (at entities place).kind (at entities place).cluster.channels (pins_of entities (at entities place))
+  pub distinct : (index : ℕ) → index < length entities → index_of entities (at entities index).id ≡ index
+  pub heard : (index : ℕ) → index < length entities
+      → All (λ s. is_clock (entity entities s).kind ≡ false) (signal_sources (at entities index))
+  pub no_ends : (index : ℕ) → index < length entities
+      → All (λ s. is_output (entity entities s).kind ≡ false) (signal_sources (at entities index))
+  pub acyclic : (index : ℕ) → index < length entities → has_walk (signal_links entities) (length entities) index ≡ false
+  pub most : (index : ℕ) → index < length entities → is_clock (at entities index).kind ≡ false → (at entities index).cluster.channels ≤ 32
+  pub fits : (index : ℕ) → index < length entities
+      → FitsPins (at entities index).kind (at entities index).cluster.channels (pins_of entities (at entities index))

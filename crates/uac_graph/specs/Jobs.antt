@@ -78,13 +78,13 @@ HasJob controls e inputs job =
     (u : UnitKind) → unit_of e.kind ≡ Some u → 1 ≤ e.cluster.channels
     → IsJob controls e.id u e.cluster.channels (length e.sources) inputs job
 
--- the jobs of the first entities, by their places: so many
+-- the jobs of the first entities, by their indices: so many
 pub record AreFirstJobs (entities : List Entity) (controls : Controls) (count : ℕ) (jobs : List Job) : Type 0 where
   pub counted : length jobs ≡ count
-  pub each : (place : ℕ) (d : Job) → place < count
-      → HasJob controls (at entities place) (sum (pins_of entities (at entities place))) (get_or jobs place d)
+  pub each : (index : ℕ) (d : Job) → index < count
+      → HasJob controls (at entities index) (sum (pins_of entities (at entities index))) (get_or jobs index d)
 
--- the job of each entity, by its place
+-- the job of each entity, by its index
 abbrev pub AreJobs : List Entity → Controls → List Job → Type 0
 AreJobs entities controls jobs = AreFirstJobs entities controls (length entities) jobs
 

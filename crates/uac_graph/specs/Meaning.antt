@@ -7,14 +7,14 @@ use Rattle.uac_entities.specs.declared.entity.EntityKind.{EntityKind}
 use Rattle.uac_entities.specs.declared.entity.EntityKind.TheVariants as kind
 use Rattle.uac_topology_rules.specs.Clusters.{is_input}
 use Rattle.uac_topology_rules.specs.Links.{signal_sources}
-use Rattle.uac_topology_rules.specs.Table.{at, place_of}
+use Rattle.uac_topology_rules.specs.Table.{at, index_of}
 use Rattle.uac_units.specs.declared.jobs.UnitKind.TheVariants as unit
 use Rattle.uac_units.specs.Rendering.{UnitControls, by_frames, input, pin_frame, unit_sample}
 use Rattle.uac_graph.specs.GraphControls.{Controls, feature_gain, node_gain, chosen_pin}
 
 -- the entity with this id; where no entity has it, one with no sources and no channels
 unfoldable pub entity : List Entity → ℕ → Entity
-entity entities id = at entities (place_of entities id)
+entity entities id = at entities (index_of entities id)
 
 -- how the controls set the unit with this id, of so many output channels and pins. A mixer's controls are numbered by its nodes,
 -- by inputs; channels of a feature's controls count from 1, the master being 0

@@ -1,4 +1,4 @@
--- What is done at the places of an order at each tick, as it follows from the graph.
+-- What is done at the indices of an order at each tick, as it follows from the graph.
 use Rattle.std.specs.Prelude.{ℕ, ◌==◌, Bool, not, if◌then◌else◌, List, [], ◌∷◌, Option, Some, None, map, filter}
 use Rattle.uac_entities.specs.declared.entity.Entity.{Entity}
 use Rattle.uac_topology_rules.specs.Clusters.{is_input}
@@ -20,14 +20,14 @@ work_by id unit (source ∷ other ∷ sources) = Ask
 unfoldable pub work_of : Entity → Work
 work_of e = if e.cluster.channels == 0 then Ask else work_by e.id (unit_of e.kind) e.sources
 
--- what is done for the entity at a place
+-- what is done for the entity at an index
 abbrev pub task_of : List Entity → ℕ → Task
-task_of entities place = record { place = place; work = work_of (at entities place) }
+task_of entities index = record { index = index; work = work_of (at entities index) }
 
--- something is done at a place: an input terminal has its frame
+-- something is done at an index: an input terminal has its frame
 abbrev pub is_worked : List Entity → ℕ → Bool
-is_worked entities place = not (is_input (at entities place).kind)
+is_worked entities index = not (is_input (at entities index).kind)
 
--- what is done at these places, one after the other
+-- what is done at these indices, one after the other
 abbrev pub tasks_at : List Entity → List ℕ → List Task
-tasks_at entities places = map (task_of entities) (filter (is_worked entities) places)
+tasks_at entities indices = map (task_of entities) (filter (is_worked entities) indices)

@@ -20,7 +20,7 @@ use uac_pcm::{Frame, Tone};
 use uac_topology_rules::is_clock;
 use uac_units::{Job, Pins, Steps, Unit};
 
-/// A frame for each terminal and each unit, at the place that is the entity's id. There is a place for each id.
+/// A frame for each terminal and each unit, in the slot that is the entity's id. There is a slot for each id.
 #[derive(Drop)]
 pub struct FrameTable {
     row: Vec<Option<Frame>>,
@@ -49,7 +49,7 @@ impl FrameTable {
         Ok(FrameTable { row })
     }
 
-    /// Puts a copy of a frame in the place of the one that is there.
+    /// Puts a copy of a frame into the slot of the one that is there.
     pub(crate) fn set(&mut self, id: u8, frame: &Frame)
         requires { option_map length (frame_on self.old id) ≡ Some (length frame.now.items) }
         ensures wires { (k : ℕ) → frame_on self.new k ≡ (if id == k then Some frame.now.items else frame_on self.old k) }
@@ -60,7 +60,7 @@ impl FrameTable {
         }
     }
 
-    /// Puts silence in the place of the frame that is there, on as many channels.
+    /// Puts silence into the slot of the frame that is there, on as many channels.
     pub(crate) fn silence(&mut self, id: u8)
         ensures wires { (k : ℕ) → frame_on self.new k
             ≡ (if id == k then option_map (λ samples. replicate (length samples) (pos 0)) (frame_on self.old id) else frame_on self.old k) }
@@ -71,7 +71,7 @@ impl FrameTable {
         }
     }
 
-    /// Puts the frame of a tone at a place, which counts frames from 0, in that of the one that is there, on as many channels.
+    /// Puts the frame of a tone at a place, which counts frames from 0, into the slot of the one that is there, on as many channels.
     pub(crate) fn sound(&mut self, id: u8, tone: Tone, place: u64)
         ensures wires { (k : ℕ) → frame_on self.new k
             ≡ (if id == k then option_map (λ samples. tone_frame (length samples) tone place) (frame_on self.old id)
@@ -138,7 +138,7 @@ impl FrameTable {
         self.render(id, unit, job, pins, steps);
     }
 
-    /// Puts a copy of a source's frame in the place of another.
+    /// Puts a copy of a source's frame into the slot of another.
     pub(crate) fn pass(&mut self, from: u8, to: u8)
         requires { option_map length (frame_on self.old to) ≡ Some (length (samples_on self.old from)) }
         ensures { (k : ℕ) → frame_on self.new k ≡ (if to == k then Some (samples_on self.old from) else frame_on self.old k) }
@@ -158,7 +158,7 @@ impl FrameTable {
     }
 }
 
-// Makes the frame at one place of a row that at another, which has as many channels. Most have one channel or two.
+// Makes the frame in one slot of a row that in another, which has as many channels. Most have one channel or two.
 fn pass_in(row: &mut [Option<Frame>], from: usize, to: usize)
     requires from { from < length row.old }
     requires to { to < length row.old }
@@ -179,7 +179,7 @@ fn pass_in(row: &mut [Option<Frame>], from: usize, to: usize)
     }
 }
 
-// How many channels the frame at a place has, none where there is no frame.
+// How many channels the frame in a slot has, none where there is no frame.
 fn channels_at(slot: &Option<Frame>) -> usize
     ensures { result ≡ length (unwrap_or (option_map (λ f. f.items) slot.now) []) }
 {
@@ -189,7 +189,7 @@ fn channels_at(slot: &Option<Frame>) -> usize
     }
 }
 
-// A channel's sample of the frame at a place.
+// A channel's sample of the frame in a slot.
 fn sample_of(slot: &Option<Frame>, channel: usize) -> i32
     requires { channel < length (unwrap_or (option_map (λ f. f.items) slot.now) []) }
     ensures { result ≡ slice_index_or (unwrap_or (option_map (λ f. f.items) slot.now) []) channel (pos 0) }
@@ -200,23 +200,23 @@ fn sample_of(slot: &Option<Frame>, channel: usize) -> i32
     }
 }
 
-// Makes the frame at a place, of one channel, this sample.
-fn write_one(place: &mut Option<Frame>, only: i32)
-    requires { option_map (λ f. length f.items) place.old ≡ Some 1 }
-    ensures { option_map (λ f. f.items) place.new ≡ Some (only ∷ []) }
+// Makes the frame in a slot, of one channel, this sample.
+fn write_one(slot: &mut Option<Frame>, only: i32)
+    requires { option_map (λ f. length f.items) slot.old ≡ Some 1 }
+    ensures { option_map (λ f. f.items) slot.new ≡ Some (only ∷ []) }
 {
-    match place {
+    match slot {
         Some(frame) => frame.as_mut_slice()[0] = only,
         None => unreachable!(),
     }
 }
 
-// Makes the frame at a place, of two channels, these samples.
-fn write_two(place: &mut Option<Frame>, left: i32, right: i32)
-    requires { option_map (λ f. length f.items) place.old ≡ Some 2 }
-    ensures { option_map (λ f. f.items) place.new ≡ Some (left ∷ right ∷ []) }
+// Makes the frame in a slot, of two channels, these samples.
+fn write_two(slot: &mut Option<Frame>, left: i32, right: i32)
+    requires { option_map (λ f. length f.items) slot.old ≡ Some 2 }
+    ensures { option_map (λ f. f.items) slot.new ≡ Some (left ∷ right ∷ []) }
 {
-    match place {
+    match slot {
         Some(frame) => {
             let samples = frame.as_mut_slice();
             samples[0] = left;
@@ -226,7 +226,7 @@ fn write_two(place: &mut Option<Frame>, left: i32, right: i32)
     }
 }
 
-// Makes the frame at one place of a row that at another, where there is one at both.
+// Makes the frame in one slot of a row that in another, where there is one in both.
 fn pass_wide(row: &mut [Option<Frame>], from: usize, to: usize)
     requires from { from < length row.old }
     requires to { to < length row.old }
@@ -242,11 +242,11 @@ fn pass_wide(row: &mut [Option<Frame>], from: usize, to: usize)
 }
 
 // Makes a frame another, where both are there.
-fn pass_frame(source: &Option<Frame>, place: &mut Option<Frame>)
-    ensures { place.new ≡ slot_after_passing source.now place.old }
+fn pass_frame(source: &Option<Frame>, slot: &mut Option<Frame>)
+    ensures { slot.new ≡ slot_after_passing source.now slot.old }
 {
     if let Some(frame) = source {
-        if let Some(held) = place {
+        if let Some(held) = slot {
             refill(held, frame.as_slice());
         }
     }
@@ -268,7 +268,7 @@ fn silent_row(alloc: Global, entities: &[Entity]) -> Result<Vec<Option<Frame>>, 
     Ok(row)
 }
 
-// A place for each id, with no frame.
+// A slot for each id, with no frame.
 fn empty_row(alloc: Global) -> Result<Vec<Option<Frame>>, NoMemory>
     ensures { IfOk result (λ row. row.items ≡ replicate 256 None) }
 {

@@ -16,7 +16,7 @@ ghost use Rattle.uac_graph.specs.Wiring.{AreRendered, AreWiresOf, frame_on, samp
 use crate::copies::copies_of;
 use crate::job_table::Jobs;
 use crate::jobs::{ask, no_job};
-use crate::orders::{Order, order_for, orders_of, places_for};
+use crate::orders::{Order, indices_for, order_for, orders_of};
 use crate::tasks::{Task, Work};
 use crate::wires::Wires;
 use std::alloc::Global;
@@ -74,15 +74,15 @@ impl Graph {
         ensures once { steps.new ≡ steps.old + length (needed_units self.now domain) }
     {
         let mut job = no_job();
-        for place in places_for(&self.orders, domain) {
-            self.render(*place, store, &mut job, rack, wires, steps);
+        for index in indices_for(&self.orders, domain) {
+            self.render(*index, store, &mut job, rack, wires, steps);
         }
     }
 
-    // Renders the entity at a place, where its sources are rendered, under the controls held. An input terminal has its frame.
+    // Renders the entity at an index, where its sources are rendered, under the controls held. An input terminal has its frame.
     fn render(
         &self,
-        place: usize,
+        index: usize,
         store: &Store,
         job: &mut Job,
         rack: &Rack,
@@ -90,16 +90,16 @@ impl Graph {
         steps: &mut Steps,
     )
         requires rack { IsFitted (λ v x. (⟦<dyn Unit as Unit>⟧ v).kind_of x) rack.now }
-        requires inside { place < length self.now }
-        requires signal { is_clock (at self.now place).kind ≡ false }
+        requires inside { index < length self.now }
+        requires signal { is_clock (at self.now index).kind ≡ false }
         requires wires { AreWiresOf self.now wires.old }
-        requires room { steps.old + unit_count (at self.now place).kind < 2 ^ 64 }
-        ensures rendered { (id : ℕ) → frame_on wires.new id ≡ frame_after self.now (controls_in store.now) place wires.old id }
+        requires room { steps.old + unit_count (at self.now index).kind < 2 ^ 64 }
+        ensures rendered { (id : ℕ) → frame_on wires.new id ≡ frame_after self.now (controls_in store.now) index wires.old id }
         ensures fitting { AreWiresOf self.now wires.new }
-        ensures counted { steps.new ≡ steps.old + unit_count (at self.now place).kind }
+        ensures counted { steps.new ≡ steps.old + unit_count (at self.now index).kind }
     {
-        ask(job, &self.table, store, self.table.at(place));
-        self.render_by(place, job, rack, wires, steps);
+        ask(job, &self.table, store, self.table.at(index));
+        self.render_by(index, job, rack, wires, steps);
     }
 
     /// The jobs of its units under the controls held, with all the memory that they will use.
@@ -142,7 +142,7 @@ impl Graph {
         }
     }
 
-    // Does what is done at the places of an order, one after the other.
+    // Does what is done at the indices of an order, one after the other.
     fn follow(&self, order: &Order, jobs: &Jobs, rack: &Rack, wires: &mut Wires, steps: &mut Steps)
         requires rack { IsFitted (λ v x. (⟦<dyn Unit as Unit>⟧ v).kind_of x) rack.now }
         requires sound { IsSignalGraph self.now }
@@ -160,45 +160,45 @@ impl Graph {
         }
     }
 
-    // Does what is done at one place, where the sources of its entity are rendered.
+    // Does what is done at one index, where the sources of its entity are rendered.
     fn carry_out(&self, task: &Task, jobs: &Jobs, rack: &Rack, wires: &mut Wires, steps: &mut Steps)
         requires rack { IsFitted (λ v x. (⟦<dyn Unit as Unit>⟧ v).kind_of x) rack.now }
         requires sound { IsSignalGraph self.now }
-        requires task { task.now.work ≡ work_of (at self.now task.now.place) }
-        requires inside { task.now.place < length self.now }
-        requires signal { is_clock (at self.now task.now.place).kind ≡ false }
-        requires worked { is_input (at self.now task.now.place).kind ≡ false }
+        requires task { task.now.work ≡ work_of (at self.now task.now.index) }
+        requires inside { task.now.index < length self.now }
+        requires signal { is_clock (at self.now task.now.index).kind ≡ false }
+        requires worked { is_input (at self.now task.now.index).kind ≡ false }
         requires jobs { (controls : Controls) × AreJobs self.now controls jobs.now }
         requires wires { AreWiresOf self.now wires.old }
-        requires room { steps.old + unit_count (at self.now task.now.place).kind < 2 ^ 64 }
+        requires room { steps.old + unit_count (at self.now task.now.index).kind < 2 ^ 64 }
         ensures rendered { (controls : Controls) → AreJobs self.now controls jobs.now
-            → (id : ℕ) → frame_on wires.new id ≡ frame_after self.now controls task.now.place wires.old id }
+            → (id : ℕ) → frame_on wires.new id ≡ frame_after self.now controls task.now.index wires.old id }
         ensures fitting { AreWiresOf self.now wires.new }
-        ensures counted { steps.new ≡ steps.old + unit_count (at self.now task.now.place).kind }
+        ensures counted { steps.new ≡ steps.old + unit_count (at self.now task.now.index).kind }
     {
         match task.work {
             Work::Pass { from, to } => wires.pass(from, to),
             Work::Render { kind, source, id } => {
-                wires.render_one(id, source, rack.unit(kind), jobs.at(task.place), steps);
+                wires.render_one(id, source, rack.unit(kind), jobs.at(task.index), steps);
             }
-            Work::Ask => self.render_by(task.place, jobs.at(task.place), rack, wires, steps),
+            Work::Ask => self.render_by(task.index, jobs.at(task.index), rack, wires, steps),
         }
     }
 
-    // Renders the entity at a place by its job, where its sources are rendered. An input terminal has its frame.
-    fn render_by(&self, place: usize, job: &Job, rack: &Rack, wires: &mut Wires, steps: &mut Steps)
+    // Renders the entity at an index by its job, where its sources are rendered. An input terminal has its frame.
+    fn render_by(&self, index: usize, job: &Job, rack: &Rack, wires: &mut Wires, steps: &mut Steps)
         requires rack { IsFitted (λ v x. (⟦<dyn Unit as Unit>⟧ v).kind_of x) rack.now }
-        requires inside { place < length self.now }
-        requires signal { is_clock (at self.now place).kind ≡ false }
-        requires job { (controls : Controls) × HasJob controls (at self.now place) (sum (pins_of self.now (at self.now place))) job.now }
+        requires inside { index < length self.now }
+        requires signal { is_clock (at self.now index).kind ≡ false }
+        requires job { (controls : Controls) × HasJob controls (at self.now index) (sum (pins_of self.now (at self.now index))) job.now }
         requires wires { AreWiresOf self.now wires.old }
-        requires room { steps.old + unit_count (at self.now place).kind < 2 ^ 64 }
-        ensures rendered { (controls : Controls) → HasJob controls (at self.now place) (sum (pins_of self.now (at self.now place))) job.now
-            → (id : ℕ) → frame_on wires.new id ≡ frame_after self.now controls place wires.old id }
+        requires room { steps.old + unit_count (at self.now index).kind < 2 ^ 64 }
+        ensures rendered { (controls : Controls) → HasJob controls (at self.now index) (sum (pins_of self.now (at self.now index))) job.now
+            → (id : ℕ) → frame_on wires.new id ≡ frame_after self.now controls index wires.old id }
         ensures fitting { AreWiresOf self.now wires.new }
-        ensures counted { steps.new ≡ steps.old + unit_count (at self.now place).kind }
+        ensures counted { steps.new ≡ steps.old + unit_count (at self.now index).kind }
     {
-        let entity = self.table.at(place);
+        let entity = self.table.at(index);
         if !is_input(entity.kind) {
             wires.render(entity, job, rack, steps);
         }

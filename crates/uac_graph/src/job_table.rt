@@ -13,7 +13,7 @@ use uac_store::Store;
 use uac_topology_rules::EntityTable;
 use uac_units::Job;
 
-/// The job of each entity of a graph, by its place: of a unit that has channels what it is asked under some controls, and of any other
+/// The job of each entity of a graph, by its index: of a unit that has channels what it is asked under some controls, and of any other
 /// one for which nobody asks.
 #[derive(Drop)]
 pub struct Jobs {
@@ -44,12 +44,12 @@ impl Jobs {
         Ok(Jobs { list })
     }
 
-    /// The job at a place.
-    pub(crate) fn at(&self, place: usize) -> &Job
-        requires { place < length self.now }
-        ensures { (d : asked.Job) → result.now ≡ get_or self.now place d }
+    /// The job at an index.
+    pub(crate) fn at(&self, index: usize) -> &Job
+        requires { index < length self.now }
+        ensures { (d : asked.Job) → result.now ≡ get_or self.now index d }
     {
-        &self.list[place]
+        &self.list[index]
     }
 
     /// Makes the job of the entity with an id that under the controls held. It takes no memory.
@@ -59,9 +59,9 @@ impl Jobs {
         ensures { (before : Controls) → AreJobs table.now before self.old → AreSameBut id before (controls_in store.now)
             → AreJobs table.now (controls_in store.now) self.new }
     {
-        let place = table.place_of(id);
-        if place < self.list.len() {
-            ask(&mut self.list[place], table, store, table.at(place));
+        let index = table.index_of(id);
+        if index < self.list.len() {
+            ask(&mut self.list[index], table, store, table.at(index));
         }
     }
 }

@@ -21,7 +21,7 @@ pub fn each_wire_has_its_equation()
 {}
 
 /// A sound function has a signal graph.
-#[tactic(auto, using(crate::proofs::FromRules::sound_graph))]
+#[tactic(auto, using(crate::proofs::FitnessLemmas::sound_graph))]
 pub fn sound_functions_have_a_graph()
     ensures { (function : FunctionFields) → IsSoundFunction function → IsSignalGraph function.entities }
 {}
@@ -47,7 +47,7 @@ pub fn no_walk_is_too_long()
 
 /// An output terminal of a sound function is no entity's source, so a clock domain renders it exactly where it is an end of the
 /// domain.
-#[tactic(auto, using(crate::proofs::Ends::output_terminals))]
+#[tactic(auto, using(crate::proofs::NeedsEndLemmas::output_terminals))]
 pub fn output_terminals_are_ends()
     ensures { (function : FunctionFields) → IsSoundFunction function → (domain id : ℕ) → is_output (entity function.entities id).kind ≡ true
         → depends_on function.entities domain id ≡ is_end domain (entity function.entities id) }

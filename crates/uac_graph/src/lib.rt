@@ -20,7 +20,7 @@ pub mod laws;
 mod orders;
 /// Samples written over others.
 mod samples;
-/// What is done at the places of an order.
+/// What is done at the indices of an order.
 mod tasks;
 /// The output terminals of a clock domain.
 mod terminals;

@@ -4,11 +4,11 @@ ghost use Rattle.std.specs.List.{list_any};
 ghost use Rattle.uac_walk.specs.Walk.{has_walk};
 ghost use Rattle.uac_entities.specs.declared.entity.Entity.{Entity};
 ghost use Rattle.uac_topology_rules.specs.Links.{is_clock, signal_links};
-ghost use Rattle.uac_topology_rules.specs.Table.{place_of};
+ghost use Rattle.uac_topology_rules.specs.Table.{index_of};
 ghost use Rattle.uac_graph.specs.Fitness.{IsSignalGraph};
 ghost use Rattle.uac_graph.specs.Meaning.{entity};
 ghost use Rattle.uac_graph.specs.Needs.{reaches};
-ghost use Rattle.uac_graph.specs.Orders.{AreOrders, IsKeptOrder, IsRenderOrder, IsOrderOf, holds};
+ghost use Rattle.uac_graph.specs.Orders.{AreOrders, IsKeptOrder, IsRenderOrder, IsOrderOf, has_id};
 
 use crate::tasks::{Task, tasks_of};
 use crate::terminals::is_end;
@@ -16,11 +16,11 @@ use std::alloc::Global;
 use uac_descriptor::NoMemory;
 use uac_topology_rules::{EntityTable, is_output};
 
-/// The places of the entities on which the output terminals of a clock domain depend, and of these terminals, and what is done there.
+/// The indices of the entities on which the output terminals of a clock domain depend, and of these terminals, and what is done there.
 #[derive(Drop)]
 pub(crate) struct Order {
     pub domain: u8,
-    pub places: Vec<usize>,
+    pub indices: Vec<usize>,
     pub tasks: Vec<Task>,
 }
 
@@ -47,16 +47,16 @@ fn has_order(orders: &[Order], domain: u8) -> bool
     orders.iter().any(|order| order.domain == domain)
 }
 
-// The order for a domain, and what is done at its places.
+// The order for a domain, and what is done at its indices.
 fn kept_order(alloc: Global, table: &EntityTable, domain: u8) -> Result<Order, NoMemory>
     requires { IsSignalGraph table.now }
     ensures { IfOk result (λ order. (order.domain ≡ domain) × IsKeptOrder table.now order) }
 {
-    let places = order_of(alloc, table, domain)?;
-    let tasks = tasks_of(alloc, table, &places)?;
+    let indices = order_of(alloc, table, domain)?;
+    let tasks = tasks_of(alloc, table, &indices)?;
     Ok(Order {
         domain,
-        places,
+        indices,
         tasks,
     })
 }
@@ -64,45 +64,50 @@ fn kept_order(alloc: Global, table: &EntityTable, domain: u8) -> Result<Order, N
 // The order for a domain.
 fn order_of(alloc: Global, table: &EntityTable, domain: u8) -> Result<Vec<usize>, NoMemory>
     requires { IsSignalGraph table.now }
-    ensures { IfOk result (λ places. IsOrderOf table.now domain places.items) }
+    ensures { IfOk result (λ indices. IsOrderOf table.now domain indices.items) }
 {
-    let mut places = Vec::new(alloc);
+    let mut indices = Vec::new(alloc);
     let entities = table.as_slice();
     for entity in entities {
         if is_end(domain, entity) {
-            visit(table, entity.id, entities.len(), &mut places)?;
+            visit(table, entity.id, entities.len(), &mut indices)?;
         }
     }
-    Ok(places)
+    Ok(indices)
 }
 
 // Puts an entity after all that it depends on, where it isn't there yet. No walk of so many links leads on from it.
-fn visit(table: &EntityTable, id: u8, links: usize, places: &mut Vec<usize>) -> Result<(), NoMemory>
+fn visit(
+    table: &EntityTable,
+    id: u8,
+    links: usize,
+    indices: &mut Vec<usize>,
+) -> Result<(), NoMemory>
     requires sound { IsSignalGraph table.now }
     requires signal { is_clock (entity table.now id).kind ≡ false }
-    requires ends { has_walk (signal_links table.now) links (place_of table.now id) ≡ false }
-    requires order { IsRenderOrder table.now places.old.items }
-    ensures order { OnOk result (IsRenderOrder table.now places.new.items) }
+    requires ends { has_walk (signal_links table.now) links (index_of table.now id) ≡ false }
+    requires order { IsRenderOrder table.now indices.old.items }
+    ensures order { OnOk result (IsRenderOrder table.now indices.new.items) }
     ensures all { OnOk result ((k : ℕ)
-        → holds table.now places.new.items k ≡ (holds table.now places.old.items k || reaches table.now links id k)) }
+        → has_id table.now indices.new.items k ≡ (has_id table.now indices.old.items k || reaches table.now links id k)) }
 {
-    let place = table.place_of(id);
-    if places.as_slice().contains(&place) {
+    let index = table.index_of(id);
+    if indices.as_slice().contains(&index) {
         return Ok(());
     }
-    for source in table.at(place).sources.as_slice() {
-        visit(table, *source, links - 1, places)?;
+    for source in table.at(index).sources.as_slice() {
+        visit(table, *source, links - 1, indices)?;
     }
-    places.push(place)?;
+    indices.push(index)?;
     Ok(())
 }
 
-/// The places of a domain's order, none where it has no output terminal.
-pub(crate) fn places_for(orders: &[Order], domain: u8) -> &[usize]
+/// The indices of a domain's order, none where it has no output terminal.
+pub(crate) fn indices_for(orders: &[Order], domain: u8) -> &[usize]
     ensures { (entities : List Entity) → AreOrders entities orders.now → IsOrderOf entities domain result.now }
 {
     match order_for(orders, domain) {
-        Some(order) => order.places.as_slice(),
+        Some(order) => order.indices.as_slice(),
         None => &[],
     }
 }

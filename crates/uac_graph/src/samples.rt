@@ -46,7 +46,7 @@ pub(crate) fn write_over(list: &mut [i32], samples: &[i32])
     }
 }
 
-// The sample at a place.
+// The sample at an index.
 fn sample_at(samples: &[i32], at: usize) -> i32
     requires { at < length samples.now }
     ensures { result ≡ slice_index_or samples.now at (pos 0) }

@@ -1,4 +1,4 @@
-// What is done at the places of an order at each tick, as it follows from the graph.
+// What is done at the indices of an order at each tick, as it follows from the graph.
 ghost use Rattle.std.specs.Prelude.{◌≡◌, ◌<◌, IfOk, length};
 ghost use Rattle.std.specs.List.{All};
 ghost use Rattle.uac_graph.specs.Tasks as spec;
@@ -21,30 +21,30 @@ pub(crate) enum Work {
     Ask,
 }
 
-/// What is done for the entity at a place.
+/// What is done for the entity at an index.
 #[derive(Drop)]
 pub(crate) struct Task {
-    pub place: usize,
+    pub index: usize,
     pub work: Work,
 }
 
-/// What is done for the entities at these places: for an input terminal nothing, since it has its frame.
+/// What is done for the entities at these indices: for an input terminal nothing, since it has its frame.
 pub(crate) fn tasks_of(
     alloc: Global,
     table: &EntityTable,
-    places: &[usize],
+    indices: &[usize],
 ) -> Result<Vec<Task>, NoMemory>
-    requires { All (λ place. place < length table.now) places.now }
-    ensures { IfOk result (λ tasks. tasks.items ≡ spec.tasks_at table.now places.now) }
+    requires { All (λ index. index < length table.now) indices.now }
+    ensures { IfOk result (λ tasks. tasks.items ≡ spec.tasks_at table.now indices.now) }
 {
     let mut tasks = Vec::new(alloc);
-    for place in places {
-        let entity = table.at(*place);
+    for index in indices {
+        let entity = table.at(*index);
         if is_input(entity.kind) {
             continue;
         }
         let task = Task {
-            place: *place,
+            index: *index,
             work: work_of(entity),
         };
         tasks.push(task)?;

@@ -44,7 +44,7 @@ impl Model for Wires {
 
 impl Wires {
     /// Silence on the wire of each terminal and each unit of a function.
-    #[tactic(auto, using(crate::proofs::Lookups::silent_fits))]
+    #[tactic(auto, using(crate::proofs::WiringLemmas::silent_fits))]
     pub fn new(alloc: Global, function: &Function) -> Result<Wires, NoMemory>
         ensures silent { IfOk result (λ wires. AreSilent function.now.entities wires) }
         ensures fitting { IfOk result (λ wires. AreWiresOf function.now.entities wires) }

@@ -1,5 +1,5 @@
 -- Streams that come home: one interval, one life, and the streams of a run.
 pub mod PastLemmas
-pub mod Trails
-pub mod TrailedRuns
-pub mod TrailedTransfers
+pub mod HomingTrailLemmas
+pub mod HomingLemmas
+pub mod HomingTransferLemmas

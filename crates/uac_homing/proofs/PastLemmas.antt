@@ -7,7 +7,7 @@ use Rattle.uac_rate.specs.Levels.{AreIntervals, HasBand, Interval, IsJustPrimed,
 use Rattle.uac_rate.proofs.LevelsLemmas.{interval_tight, primed_tight, report_tight}
 use Rattle.uac_settle.specs.Settling.{Ends, IsIntervalEnd, IsServed, LosesNoPacket, Served, Stretch}
 use Rattle.uac_settle.proofs.SettlingTurnLemmas.{turns_and}
-use Rattle.uac_bands.proofs.Numbers.{times_more}
+use Rattle.uac_bands.proofs.LevelsMicroframeLemmas.{times_more}
 use Rattle.uac_homing.specs.Past.{Past, no_past, one_later}
 
 -- ---- rows

@@ -11,7 +11,7 @@ use Rattle.uac_pcm.specs.Subslots.{wrap}
 use Rattle.uac_pcm.specs.Tones.{tone_sample, tone_frame}
 use Rattle.uac_pcm.specs.declared.tones.Tone.{Tone}
 use Rattle.uac_pcm.specs.declared.tones.Tone.TheVariants.{Silent, Ramp, Noise}
-use Rattle.uac_pcm.proofs.Wrapping.{int_wrap-pos}
+use Rattle.uac_pcm.proofs.TonesWrapLemmas.{int_wrap-pos}
 use Rattle.uac_pcm.proofs.PacketsLemmas.{drop-drop}
 use Rattle.uac_host.specs.HostWorld.{Track}
 use Rattle.uac_host.specs.HostCalls.{track_after_frames, next_frames}

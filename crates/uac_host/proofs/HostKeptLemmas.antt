@@ -9,7 +9,7 @@ use Rattle.std.proofs.lemmas.List.Quantifiers.{position-Some}
 use Rattle.std.proofs.lemmas.List.Sums.{position_or_len_is}
 use Rattle.std.proofs.lemmas.Option.{slice_get-get_or, slice_get_past}
 use Rattle.uac_pcm.proofs.PacketsLemmas.{take_front, drop_front}
-use Rattle.uac_topology_rules.proofs.Found.{position_none}
+use Rattle.uac_topology_rules.proofs.ListFindLemmas.{position_none}
 use Rattle.uac_rate.proofs.PacketSizesLemmas.{by_remainder}
 use Rattle.uac_rate.specs.PacketSizes.{frames_in_packet}
 use Rattle.uac_host.specs.declared.host_streams.HostStream.{HostStream}
@@ -118,17 +118,17 @@ remainder_kept p =
 pub eq_of : (m n : ℕ) → (m == n) ≡ true → m ≡ n
 eq_of m n e = grind arith
 
-first_place : (host : List HostStream) (interface place : ℕ) (d : HostStream) → position (λ l. l.interface == interface) host ≡ Some place → position_or_len (λ l. l.interface == interface) host ≡ place
-first_place host interface place d is =
-    let at = position-Some (λ (l : HostStream). l.interface == interface) host place d is in
-    position_or_len_is (λ (l : HostStream). l.interface == interface) host place d (omega (arith, at.0)) at.2 (λ inside. at.1)
+first_index : (host : List HostStream) (interface index : ℕ) (d : HostStream) → position (λ l. l.interface == interface) host ≡ Some index → position_or_len (λ l. l.interface == interface) host ≡ index
+first_index host interface index d is =
+    let at = position-Some (λ (l : HostStream). l.interface == interface) host index d is in
+    position_or_len_is (λ (l : HostStream). l.interface == interface) host index d (omega (arith, at.0)) at.2 (λ inside. at.1)
 
 -- the host stream that was found is that of its interface
-pub host_stream_found : (host : List HostStream) (interface place : ℕ) (d : HostStream) → position (λ l. l.interface == interface) host ≡ Some place
-    → (stream_on host interface ≡ Some (get_or host place d)) × ((get_or host place d).interface ≡ interface)
-host_stream_found host interface place d is =
-    let at = position-Some (λ (l : HostStream). l.interface == interface) host place d is in (
-      find_at (λ (l : HostStream). l.interface == interface) host ∙ ap (slice_get host) (first_place host interface place d is) ∙ slice_get-get_or host place d at.0,
+pub host_stream_found : (host : List HostStream) (interface index : ℕ) (d : HostStream) → position (λ l. l.interface == interface) host ≡ Some index
+    → (stream_on host interface ≡ Some (get_or host index d)) × ((get_or host index d).interface ≡ interface)
+host_stream_found host interface index d is =
+    let at = position-Some (λ (l : HostStream). l.interface == interface) host index d is in (
+      find_at (λ (l : HostStream). l.interface == interface) host ∙ ap (slice_get host) (first_index host interface index d is) ∙ slice_get-get_or host index d at.0,
       eq_of _ _ at.1,
     )
 
@@ -140,19 +140,19 @@ host_stream_missing host interface is =
     find_at p host ∙ slice_get_past host (position_or_len p host) (omega arith)
 
 -- the host streams after one was written
-pub host_stream_written : (host : List HostStream) (interface place : ℕ) (l d : HostStream) → position (λ l. l.interface == interface) host ≡ Some place → l.interface ≡ interface
-    → (k : ℕ) → stream_on (set host place l) k ≡ (if k == interface then Some l else stream_on host k)
-host_stream_written host interface place l d is own k =
-    let found = position-Some (λ (l : HostStream). l.interface == interface) host place d is in
+pub host_stream_written : (host : List HostStream) (interface index : ℕ) (l d : HostStream) → position (λ l. l.interface == interface) host ≡ Some index → l.interface ≡ interface
+    → (k : ℕ) → stream_on (set host index l) k ≡ (if k == interface then Some l else stream_on host k)
+host_stream_written host interface index l d is own k =
+    let found = position-Some (λ (l : HostStream). l.interface == interface) host index d is in
     elim (cases_eq k interface) [
       | inl same ↦
           (let mine : (l.interface == k) ≡ true = eq-eqb l.interface k (own ∙ sym same) in
-          let is_first : place ≡ position_or_len (λ (l : HostStream). l.interface == k) host =
-          sym (ap (λ (n : ℕ). position_or_len (λ (l : HostStream). l.interface == n) host) same ∙ first_place host interface place d is) in
-          find-set (λ (l : HostStream). l.interface == k) host place l is_first found.0 mine ∙ sym (ap (λ (b : Bool). if b then Some l else stream_on host k) (eq-eqb k interface same)))
+          let is_first : index ≡ position_or_len (λ (l : HostStream). l.interface == k) host =
+          sym (ap (λ (n : ℕ). position_or_len (λ (l : HostStream). l.interface == n) host) same ∙ first_index host interface index d is) in
+          find-set (λ (l : HostStream). l.interface == k) host index l is_first found.0 mine ∙ sym (ap (λ (b : Bool). if b then Some l else stream_on host k) (eq-eqb k interface same)))
       | inr other ↦
-          (let was : (get_or host place d).interface ≡ interface = eq_of _ _ found.1 in
-          let before : ((get_or host place d).interface == k) ≡ false = ne_eqb _ _ (λ e. other (sym e ∙ was)) in
+          (let was : (get_or host index d).interface ≡ interface = eq_of _ _ found.1 in
+          let before : ((get_or host index d).interface == k) ≡ false = ne_eqb _ _ (λ e. other (sym e ∙ was)) in
           let after : (l.interface == k) ≡ false = ne_eqb _ _ (λ e. other (sym e ∙ own)) in
-          find_past (λ (l : HostStream). l.interface == k) host place l d before after ∙ sym (ap (λ (b : Bool). if b then Some l else stream_on host k) (ne_eqb k interface other)))
+          find_past (λ (l : HostStream). l.interface == k) host index l d before after ∙ sym (ap (λ (b : Bool). if b then Some l else stream_on host k) (ne_eqb k interface other)))
     ]

@@ -1,5 +1,5 @@
 pub mod HostCallsLemmas
-pub mod SettingStreams
+pub mod HostCallsStreamLemmas
 pub mod HostKeptLemmas
-pub mod StandsAfterCalls
+pub mod HostKeptCallLemmas
 mod Worked

@@ -41,7 +41,7 @@ impl Host {
     {
         let mut host_streams = Vec::new(alloc);
         for stream in function.streams() {
-            host_streams.push(HostStream::resting(alloc, stream.number))?;
+            host_streams.push(HostStream::at_rest(alloc, stream.number))?;
         }
         Ok(Host { host_streams })
     }
@@ -55,8 +55,8 @@ impl Host {
             → HostStands self.new (with_stream interface (option_map stream_fields stream) w) }
     {
         settings_are_in_range();
-        match self.place(interface) {
-            Some(place) => self.host_streams[place].run(stream),
+        match self.stream_index(interface) {
+            Some(index) => self.host_streams[index].run(stream),
             None => {}
         }
     }
@@ -68,8 +68,8 @@ impl Host {
             → OnOk result (HostStands self.new (with_samples interface samples.now w)) }
         ensures unchanged { OnErr result (self.new ≡ self.old) }
     {
-        match self.place(interface) {
-            Some(place) => self.host_streams[place].track.append(samples),
+        match self.stream_index(interface) {
+            Some(index) => self.host_streams[index].track.append(samples),
             None => Ok(()),
         }
     }
@@ -78,8 +78,8 @@ impl Host {
     pub fn track(&mut self, interface: u8, tone: Tone)
         ensures stands { (w : HostWorld) → HostStands self.old w → HostStands self.new (with_track_tone interface tone w) }
     {
-        match self.place(interface) {
-            Some(place) => self.host_streams[place].track.play(tone),
+        match self.stream_index(interface) {
+            Some(index) => self.host_streams[index].track.play(tone),
             None => {}
         }
     }
@@ -92,8 +92,8 @@ impl Host {
         ensures packet { (w : HostWorld) → HostStands self.old w → packet.new.items ≡ packet_of w interface }
         ensures stands { (w : HostWorld) → HostStands self.old w → HostStands self.new (after_host_packet interface w) }
     {
-        match self.place(interface) {
-            Some(place) => self.host_streams[place].send(packet),
+        match self.stream_index(interface) {
+            Some(index) => self.host_streams[index].send(packet),
             None => {
                 packet.clear();
                 0
@@ -105,8 +105,8 @@ impl Host {
     pub fn take_report(&mut self, interface: u8, value: u32)
         ensures stands { (w : HostWorld) → HostStands self.old w → HostStands self.new (with_report interface value w) }
     {
-        match self.place(interface) {
-            Some(place) => self.host_streams[place].report(value),
+        match self.stream_index(interface) {
+            Some(index) => self.host_streams[index].report(value),
             None => {}
         }
     }
@@ -119,14 +119,14 @@ impl Host {
             → OnTrue result (slice_get (heard_in w interface packet.now.items) at ≡ Some frame.new.items) }
         ensures unchanged { OnFalse result (frame.new ≡ frame.old) }
     {
-        match self.place(interface) {
-            Some(place) => self.host_streams[place].hear(packet, at, frame),
+        match self.stream_index(interface) {
+            Some(index) => self.host_streams[index].hear(packet, at, frame),
             None => false,
         }
     }
 
     // The index of an interface's host stream.
-    fn place(&self, interface: u8) -> Option<usize>
+    fn stream_index(&self, interface: u8) -> Option<usize>
         ensures { result ≡ position (λ l. l.interface == interface) self.now }
     {
         self.host_streams

@@ -24,7 +24,7 @@ pub struct HostStream {
 
 impl HostStream {
     /// What is kept of an interface that runs no stream, with a silent track. It takes no memory.
-    pub(crate) fn resting(alloc: Global, interface: u8) -> HostStream
+    pub(crate) fn at_rest(alloc: Global, interface: u8) -> HostStream
         ensures { result ≡ resting_stream interface }
     {
         HostStream {

@@ -111,9 +111,9 @@ fn take_first(waiting: &mut VecDeque<i32>, samples: &mut [i32])
     ensures front { samples.new ≡ take (length samples.old) waiting.old.items }
     ensures rest { waiting.new.items ≡ drop (length samples.old) waiting.old.items }
 {
-    for place in 0..samples.len() {
+    for index in 0..samples.len() {
         if let Some(sample) = waiting.pop_front() {
-            samples[place] = sample;
+            samples[index] = sample;
         }
     }
 }

@@ -6,8 +6,8 @@ use Rattle.uac_descriptor.specs.declared.block.Block.{Block}
 use Rattle.uac_descriptor.specs.Laws.{HasSpelling}
 use Rattle.uac_descriptor.specs.Layout.{IsWhole}
 use Rattle.uac_descriptor.specs.Spelling.{spelling}
-use Rattle.uac_descriptor.proofs.ReadBack.{is_whole-spelling}
-use Rattle.uac_descriptor.proofs.SpeltAsRead.{IsWhole-is_whole}
+use Rattle.uac_descriptor.proofs.SpellingLemmas.{is_whole-spelling}
+use Rattle.uac_descriptor.proofs.BlockParsingLemmas.{IsWhole-is_whole}
 use Rattle.uac_listing.specs.EntityLines.{ids_text, more_ids}
 use Rattle.uac_listing.specs.BlockLines.{kind_of, line_of, block_line, block_lines}
 

@@ -1,12 +1,12 @@
 -- What the proofs of views rest on.
-pub mod ValueBytes
+pub mod MixerElementsByteLemmas
 pub mod MixerElementsLemmas
-pub mod Members
-pub mod Setting
-pub mod Stored
-pub mod Agreed
-pub mod Made
-pub mod Calls
-pub mod Steps
-pub mod Reading
-pub mod Apart
+pub mod MixerElementsListLemmas
+pub mod RequestsLemmas
+pub mod AgreementStartLemmas
+pub mod AgreementLemmas
+pub mod ViewLinksLemmas
+pub mod ViewTransfersLemmas
+pub mod ViewLinksCallLemmas
+pub mod ViewLinksReadLemmas
+pub mod MixerElementsKeyLemmas

@@ -65,7 +65,7 @@ impl ElementKind {
     }
 
     /// The bytes of the control (Audio Class 2.0, 5.2.5.1 to 5.2.5.8).
-    #[tactic(auto, using(crate::proofs::ValueBytes::few))]
+    #[tactic(auto, using(crate::proofs::MixerElementsByteLemmas::few))]
     pub fn width(self) -> u8
         ensures value { result ≡ spec.width_of self }
         ensures few { result ≤ 4 }

@@ -5,7 +5,7 @@ use uac_store::laws::sound_functions_have_keys_and_rates;
 use uac_topology::laws::entities_have_pins;
 
 /// At the start each control of a sound function has a value that it takes.
-#[tactic(auto, using(crate::proofs::Stored::starts))]
+#[tactic(auto, using(crate::proofs::AgreementStartLemmas::starts))]
 pub fn controls_start_with_values()
     ensures { ControlsStart }
 {
@@ -14,7 +14,7 @@ pub fn controls_start_with_values()
 }
 
 /// No request changes that each control has such a value.
-#[tactic(auto, using(crate::proofs::Stored::stays))]
+#[tactic(auto, using(crate::proofs::AgreementStartLemmas::stays))]
 pub fn controls_keep_values()
     ensures { ControlsStay }
 {}

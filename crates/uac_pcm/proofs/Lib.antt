@@ -1,7 +1,7 @@
-pub mod Wrapping
+pub mod TonesWrapLemmas
 pub mod SubslotsRoundingLemmas
 pub mod SubslotsLemmas
-pub mod Packing
-pub mod Sounding
+pub mod FramesLemmas
+pub mod TonesFrameLemmas
 pub mod PacketsLemmas
 mod Worked

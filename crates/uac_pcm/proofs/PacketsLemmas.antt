@@ -11,7 +11,7 @@ use Rattle.std.proofs.lemmas.Option.{slice_get-map}
 use Rattle.uac_pcm.specs.Subslots.{cut_to, sample_of_subslot}
 use Rattle.uac_pcm.specs.Frames.{IsFormat, bytes_of_frame, frame_of_bytes}
 use Rattle.uac_pcm.specs.Packets.{IsFrame, bytes_of_frames, frames_of_bytes, whole_frames}
-use Rattle.uac_pcm.proofs.Packing.{length-bytes_of_frame, frame_of_bytes-bytes_of_frame}
+use Rattle.uac_pcm.proofs.FramesLemmas.{length-bytes_of_frame, frame_of_bytes-bytes_of_frame}
 
 -- the front of two lists in a row, where it has that length, and what is after it
 pub take_front : {X : Type 0} (n : ℕ) (xs ys : List X) → length xs ≡ n → take n (xs ++ ys) ≡ xs

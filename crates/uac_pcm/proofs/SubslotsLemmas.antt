@@ -6,7 +6,7 @@ use Rattle.std.proofs.lemmas.Nat.{pow_pos, pow-add}
 use Rattle.byteorder.specs.Endian.{little_bytes, little_number}
 use Rattle.byteorder.specs.Numbers.{little_number-reads_back}
 use Rattle.uac_pcm.specs.Subslots.{floor_of, modulo, wrap, cut_to, subslot_of, sample_of_subslot}
-use Rattle.uac_pcm.proofs.Wrapping.{int_wrap-pos}
+use Rattle.uac_pcm.proofs.TonesWrapLemmas.{int_wrap-pos}
 use Rattle.uac_pcm.proofs.SubslotsRoundingLemmas.{fits-rounded, top_bits, finer_multiple, multiple_comes_back}
 
 -- powers of two whose exponents add up

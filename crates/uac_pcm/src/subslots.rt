@@ -33,7 +33,7 @@ pub fn write_subslots<const SIZE: usize>(samples: &[i32], resolution: u8, subslo
 }
 
 // A frame of one sample as the bytes of its subslot.
-#[tactic(auto, using(crate::proofs::Packing::only_written))]
+#[tactic(auto, using(crate::proofs::FramesLemmas::only_written))]
 fn write_only<const SIZE: usize>(samples: &[i32], resolution: u8, subslots: &mut [u8])
     requires one { length samples.now ≡ 1 }
     requires some { 1 ≤ SIZE }
@@ -47,7 +47,7 @@ fn write_only<const SIZE: usize>(samples: &[i32], resolution: u8, subslots: &mut
 }
 
 // A frame of two samples as the bytes of its subslots.
-#[tactic(auto, using(crate::proofs::Packing::pair_written))]
+#[tactic(auto, using(crate::proofs::FramesLemmas::pair_written))]
 fn write_pair<const SIZE: usize>(samples: &[i32], resolution: u8, subslots: &mut [u8])
     requires two { length samples.now ≡ 2 }
     requires some { 1 ≤ SIZE }

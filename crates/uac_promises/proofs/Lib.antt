@@ -1,8 +1,8 @@
 -- Promises of every printed line: line by line, and microframe by microframe.
-pub mod SeenLines
-pub mod PlainLines
-pub mod GoodRuns
-pub mod OneByOne
-pub mod GoodBeginnings
-pub mod InARow
-pub mod AllScripts
+pub mod WatchesLemmas
+pub mod PromisesPlainLemmas
+pub mod PromisesRunLemmas
+pub mod PromisesLineLemmas
+pub mod PromisesStartLemmas
+pub mod PromisesRowLemmas
+pub mod PromisesLemmas

@@ -41,7 +41,7 @@ LinesAreSeen =
 
 -- what the lines of a script said, which leave a steady world: each stream is in its band there, and every line that they printed is as
 -- promised
-pub record KeepsPromises (saids : List (Result Phrase ℕ)) (shown : List Reading) : Type 0 where
+pub record IsAsPromised (saids : List (Result Phrase ℕ)) (shown : List Reading) : Type 0 where
   pub band : IsInBand (after saids (start shown)).world
   pub recorded : IsRecordedIn (after saids (start shown)).world
   pub kept : All IsKeptPromise (watches_after saids (start shown) no_pasts).lines
@@ -50,7 +50,7 @@ pub record KeepsPromises (saids : List (Result Phrase ℕ)) (shown : List Readin
 abbrev pub SteadyScriptsKeepPromises : Type 0
 SteadyScriptsKeepPromises =
     (texts : List (List ℕ)) (saids : List (Result Phrase ℕ)) (shown : List Reading) → AllZip Says texts saids
-    → is_steady_in (after saids (start shown)).world ≡ true → KeepsPromises saids shown
+    → is_steady_in (after saids (start shown)).world ≡ true → IsAsPromised saids shown
 
 -- what one line more prints, after lines of which none was refused, in a world that is steady after it
 pub record PrintsKept (lines : List Said) : Type 0 where

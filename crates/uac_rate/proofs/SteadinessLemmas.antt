@@ -4,7 +4,7 @@ use Rattle.std.proofs.lemmas.Bool.{eqb-true, eqb-false, eq-eqb, false≢true}
 use Rattle.std.proofs.lemmas.Grind.{common_steps, get_or-set_at}
 use Rattle.std.proofs.lemmas.List.{get_or-set_other}
 use Rattle.std.specs.List.{list_all, list_any}
-use Rattle.uac_rate.specs.Steadiness.{SteadyHistory, SteadyFields, SteadyStands, one_more, with_report_given, is_slight, run, has_four_lost, keeps_feedback, eight_streams, is_steady, latest_run, HasFourInARow}
+use Rattle.uac_rate.specs.Steadiness.{SteadyHistory, SteadyFields, SteadyStands, one_more, with_report_given, is_slight, run, has_four_lost, loses_few_reports, eight_streams, is_steady, latest_run, HasFourInARow}
 
 here : (p ok a n : Bool) → ((p && ok) && (a && (if n then ok else true))) ≡ ((p && a) && ok)
 here false ok a n = refl
@@ -85,8 +85,8 @@ steady_after given stream lost below =
     (nat_lt (latest_run now) 4) eight_streams here_is others in
     let found : (if list_any (λ k. k == stream) eight_streams then nat_lt (latest_run now) 4 else true) ≡ nat_lt (latest_run now) 4 =
     ap (λ b. if b then nat_lt (latest_run now) 4 else true) (is_below_eight stream below) in
-    ap (λ b. list_all is_slight given.deviations && b) (all ∙ ap (λ b. keeps_feedback given.feedback eight_streams && b) found)
-    ∙ and_last (list_all is_slight given.deviations) (keeps_feedback given.feedback eight_streams) (nat_lt (latest_run now) 4)
+    ap (λ b. list_all is_slight given.deviations && b) (all ∙ ap (λ b. loses_few_reports given.feedback eight_streams && b) found)
+    ∙ and_last (list_all is_slight given.deviations) (loses_few_reports given.feedback eight_streams) (nat_lt (latest_run now) 4)
 
 held_at_four : (r : ℕ) → nat_lt (min r 4) 4 ≡ nat_lt r 4
 held_at_four zero = refl

@@ -52,15 +52,15 @@ abbrev pub FourLostAreInARow : Type 0
 FourLostAreInARow = (reports : List Bool) → (has_four_lost reports ≡ true) ↔ HasFourInARow reports
 
 -- no stream of these lost four feedback reports in succession
-abbrev pub keeps_feedback : (ℕ → List (List Bool)) → List ℕ → Bool
-keeps_feedback feedback streams = list_all (λ stream. list_all (λ reports. not (has_four_lost reports)) (feedback stream)) streams
+abbrev pub loses_few_reports : (ℕ → List (List Bool)) → List ℕ → Bool
+loses_few_reports feedback streams = list_all (λ stream. list_all (λ reports. not (has_four_lost reports)) (feedback stream)) streams
 
 abbrev pub eight_streams : List ℕ
 eight_streams = 0 ∷ 1 ∷ 2 ∷ 3 ∷ 4 ∷ 5 ∷ 6 ∷ 7 ∷ []
 
 -- no deviation passed a thousandth, and no stream lost four feedback reports in succession
 abbrev pub is_steady : SteadyHistory → Bool
-is_steady given = list_all is_slight given.deviations && keeps_feedback given.feedback eight_streams
+is_steady given = list_all is_slight given.deviations && loses_few_reports given.feedback eight_streams
 
 -- all that was given is steady, as a fact
 abbrev pub IsSteady : SteadyHistory → Type 0

@@ -17,8 +17,8 @@ abbrev pub width_at : List Entity → Key → ℕ
 width_at entities k = option_map_or (λ e. unwrap_or (entity_width e.kind k.selector) 0) (entity_by_id entities k.entity) 0
 
 -- whether a control's values are signed
-abbrev pub signed_at : List Entity → Key → Bool
-signed_at entities k = option_map_or (λ e. is_signed e.kind k.selector) (entity_by_id entities k.entity) false
+abbrev pub is_signed_at : List Entity → Key → Bool
+is_signed_at entities k = option_map_or (λ e. is_signed e.kind k.selector) (entity_by_id entities k.entity) false
 
 -- a host may set it
 abbrev pub is_writable_at : List Entity → Key → Bool

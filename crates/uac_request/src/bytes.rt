@@ -25,7 +25,7 @@ pub fn value_bytes(width: u8, value: i32) -> ControlBytes
 }
 
 // The lowest bytes of a number, as many as are asked for, the lowest first.
-#[tactic(auto, using(crate::proofs::Little::first_bytes))]
+#[tactic(auto, using(crate::proofs::EndianLemmas::first_bytes))]
 fn number_bytes(width: u8, number: u64) -> ControlBytes
     requires { width ≤ 6 }
     ensures bytes { result.items ≡ little_bytes width number }

@@ -103,7 +103,7 @@ fn write_stream(
 }
 
 // The valid settings: the number of bitmap bytes, and a bit for each setting by its number.
-#[tactic(auto, unfolding(crate::specs::Requests::valid_bytes), using(crate::proofs::Maps::two_bytes_alone))]
+#[tactic(auto, unfolding(crate::specs::Requests::valid_bytes), using(crate::proofs::RequestsValidLemmas::two_bytes_alone))]
 fn write_valid(reply: &mut Reply, function: &Function, store: &Store, stream: &StreamInterface)
     requires { reply.old.items ≡ [] }
     ensures { reply.new.items ≡ spec.valid_bytes function.now store.now stream.now }

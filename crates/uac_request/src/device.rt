@@ -15,7 +15,7 @@ use uac_topology::Function;
 /// are the bytes that came with it. It takes no memory.
 ///
 /// A stall carries the first of the rules Q1 to Q12 that the request breaks, and changes nothing.
-#[tactic(auto, unfolding(crate::specs::Requests::reply_of, crate::specs::Requests::after_request), using(crate::proofs::Asked::first_unknown))]
+#[tactic(auto, unfolding(crate::specs::Requests::reply_of, crate::specs::Requests::after_request), using(crate::proofs::RequestsRuleLemmas::first_unknown))]
 #[inline(always)]
 pub fn answer(
     function: &Function,

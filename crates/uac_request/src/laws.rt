@@ -9,30 +9,30 @@ ghost use Rattle.uac_store.specs.StoreControls.{IsStoreOf};
 ghost use Rattle.uac_store.specs.Keyed.{value_of, with_value};
 ghost use Rattle.uac_store.specs.Rates.{rate_of};
 ghost use Rattle.uac_store.specs.declared.keys.Key.{Key};
-ghost use Rattle.uac_request.specs.RequestElements.{get_of, is_present, set_of, signed_at, width_at};
+ghost use Rattle.uac_request.specs.RequestElements.{get_of, is_present, set_of, is_signed_at, width_at};
 ghost use Rattle.uac_request.specs.Requests.{AreSettingsOf, AreValidSettings, RequestState, IsWithin, after_request, request_state};
 ghost use Rattle.uac_request.specs.Requests.{is_done, is_stalled};
 ghost use Rattle.uac_request.specs.Requests.{reply_of, value_bytes, value_from, with_bytes, with_descriptor};
 ghost use Rattle.uac_request.specs.declared.setup.Setup.{Setup};
 
 /// At the start each interface of a function, and no other, has a setting.
-#[tactic(auto, using(crate::proofs::Started::are_settings))]
+#[tactic(auto, using(crate::proofs::RequestsStartLemmas::are_settings))]
 pub fn each_interface_starts_with_a_setting()
     ensures { (function : FunctionFields) → AreSettingsOf function (initial_settings function) }
 {}
 
 /// A value comes back from its bytes: one that has a place in one, two or four bytes, and so each that a control holds.
-#[tactic(auto, using(crate::proofs::Coming::value_back, crate::proofs::Answering::held_comes_back))]
+#[tactic(auto, using(crate::proofs::RequestsByteLemmas::value_back, crate::proofs::RequestElementsValueLemmas::held_comes_back))]
 pub fn values_come_back()
     ensures plain { (width : ℕ) (signed : Bool) (v : ℤ) → (width ≡ 1) ⊎ (width ≡ 2) ⊎ (width ≡ 4) → IsWithin signed width v
         → value_from signed (value_bytes width v) ≡ v }
     ensures held { (entities : List Entity) (controls : List (Key × ℤ)) (k : Key) (v : ℤ) → IsStoreOf entities controls
-        → value_of controls k ≡ Some v → value_from (signed_at entities k) (value_bytes (width_at entities k) v) ≡ v }
+        → value_of controls k ≡ Some v → value_from (is_signed_at entities k) (value_bytes (width_at entities k) v) ≡ v }
 {}
 
 /// The request for the value of a declared control is answered with the value that is held, in the control's bytes, and
 /// changes nothing.
-#[tactic(auto, using(crate::proofs::Addressed::element_answered, crate::proofs::Addressed::element_keeps, crate::proofs::Coming::length_value))]
+#[tactic(auto, using(crate::proofs::RequestElementsLemmas::element_answered, crate::proofs::RequestElementsLemmas::element_keeps, crate::proofs::RequestsByteLemmas::length_value))]
 pub fn elements_are_answered()
     ensures value { (function : FunctionFields) (controls : List (Key × ℤ)) (settings : List InterfaceSetting) (k : Key) (v : ℤ)
         → IsSoundFunction function → function.control_interface < 256 → IsStoreOf function.entities controls
@@ -46,13 +46,13 @@ pub fn elements_are_answered()
 
 /// Where the request to set a control is done, the control holds the value that the bytes are, which are as many as its
 /// width, and nothing else changes.
-#[tactic(auto, using(crate::proofs::Addressed::set_holds, crate::proofs::Addressed::set_has_width))]
+#[tactic(auto, using(crate::proofs::RequestElementsLemmas::set_holds, crate::proofs::RequestElementsLemmas::set_has_width))]
 pub fn sets_hold_the_value()
     ensures held { (function : FunctionFields) (controls : List (Key × ℤ)) (settings : List InterfaceSetting) (k : Key) (v : ℤ)
         (sent : List ℕ) → IsSoundFunction function → function.control_interface < 256 → IsStoreOf function.entities controls
         → value_of controls k ≡ Some v → reply_of function (request_state controls settings) (set_of function k) sent ≡ is_done
         → after_request function (request_state controls settings) (set_of function k) sent
-        ≡ request_state (with_value controls k (value_from (signed_at function.entities k) sent)) settings }
+        ≡ request_state (with_value controls k (value_from (is_signed_at function.entities k) sent)) settings }
     ensures width { (function : FunctionFields) (controls : List (Key × ℤ)) (settings : List InterfaceSetting) (k : Key) (v : ℤ)
         (sent : List ℕ) → IsSoundFunction function → function.control_interface < 256 → IsStoreOf function.entities controls
         → value_of controls k ≡ Some v → reply_of function (request_state controls settings) (set_of function k) sent ≡ is_done
@@ -61,7 +61,7 @@ pub fn sets_hold_the_value()
 
 /// Every request leaves the store and the settings of the function, and settings that are valid at the rates that are
 /// held; at the start they are valid.
-#[tactic(auto, using(crate::proofs::Lasting::store_stays, crate::proofs::Lasting::settings_stay, crate::proofs::Lasting::valid_stays, crate::proofs::Lasting::valid_at_start))]
+#[tactic(auto, using(crate::proofs::RequestsLemmas::store_stays, crate::proofs::RequestsLemmas::settings_stay, crate::proofs::RequestsLemmas::valid_stays, crate::proofs::RequestsLemmas::valid_at_start))]
 pub fn settings_stay_valid()
     ensures store { (function : FunctionFields) (held : RequestState) (p : Setup) (sent : List ℕ)
         → IsStoreOf function.entities held.controls
@@ -77,7 +77,7 @@ pub fn settings_stay_valid()
 {}
 
 /// While some setting isn't 0, no request changes the rate of a clock.
-#[tactic(auto, using(crate::proofs::Lasting::rates_stay))]
+#[tactic(auto, using(crate::proofs::RequestsLemmas::rates_stay))]
 pub fn running_keeps_rates()
     ensures { (function : FunctionFields) (held : RequestState) (p : Setup) (sent : List ℕ) → IsStoreOf function.entities held.controls
         → is_running held.settings ≡ true → (id : ℕ)
@@ -85,14 +85,14 @@ pub fn running_keeps_rates()
 {}
 
 /// A stalled request changes nothing.
-#[tactic(auto, using(crate::proofs::Lasting::stall_leaves_all))]
+#[tactic(auto, using(crate::proofs::RequestsLemmas::stall_leaves_all))]
 pub fn stalls_change_nothing()
     ensures { (function : FunctionFields) (held : RequestState) (p : Setup) (sent : List ℕ) (rule : ℕ)
         → reply_of function held p sent ≡ is_stalled rule → after_request function held p sent ≡ held }
 {}
 
 /// An answer that is a piece of the configuration begins with its first byte, and ends within it.
-#[tactic(auto, using(crate::proofs::Lasting::begins_at_0, crate::proofs::Lasting::ends_within))]
+#[tactic(auto, using(crate::proofs::RequestsLemmas::begins_at_0, crate::proofs::RequestsLemmas::ends_within))]
 pub fn descriptors_end_within_the_total()
     ensures start { (function : FunctionFields) (held : RequestState) (p : Setup) (sent : List ℕ) (from to : ℕ)
         → reply_of function held p sent ≡ with_descriptor from to → from ≡ 0 }

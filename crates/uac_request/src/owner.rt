@@ -39,7 +39,7 @@ pub(crate) fn has_interface(function: &Function, number: u16) -> bool
 }
 
 /// A number as that of an interface of the audio function, None where it has no such interface.
-#[tactic(auto, using(crate::proofs::Found::number_found))]
+#[tactic(auto, using(crate::proofs::FunctionInterfaceLemmas::number_found))]
 pub(crate) fn interface_named(function: &Function, number: u16) -> Option<u8>
     ensures { result ≡ (if spec.has_interface function.now number then Some number else None) }
 {

@@ -15,7 +15,7 @@ use uac_store::{Range, ranges};
 use uac_topology::Function;
 
 /// Writes the bytes of a control's ranges, whole (Audio Class 2.0, 5.2.1).
-#[tactic(auto, using(crate::proofs::Narrow::narrow_range))]
+#[tactic(auto, using(crate::proofs::RequestsWidthLemmas::narrow_range))]
 pub(crate) fn write_ranges(reply: &mut Reply, function: &Function, setup: &Setup, owner: Owner<'_>)
     requires empty { reply.old.items ≡ [] }
     requires ranged { spec.has_range (owner_fields owner) (spec.high setup.now.value) ≡ true }

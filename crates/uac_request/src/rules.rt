@@ -77,7 +77,7 @@ fn broken_at(
 }
 
 // Whether a control has the channel, or the node, that wValue names.
-#[tactic(auto, using(crate::proofs::Owned::entity_named))]
+#[tactic(auto, using(crate::proofs::RequestsOwnerLemmas::entity_named))]
 fn is_in_range(store: &Store, setup: &Setup, owner: Owner<'_>) -> bool
     ensures { (function : FunctionFields) → IsStoreOf function.entities store.now → owner_of function setup.now.index
         ≡ Some (owner_fields owner.entry)
@@ -91,7 +91,7 @@ fn is_in_range(store: &Store, setup: &Setup, owner: Owner<'_>) -> bool
 
 // Whether the controls of an entity have a channel: those that keep a value have it exactly where the store has, and a
 // terminal's connector is on channel 0 alone.
-#[tactic(auto, using(crate::proofs::Owned::of_terminal, crate::proofs::Owned::of_store))]
+#[tactic(auto, using(crate::proofs::RequestsOwnerLemmas::of_terminal, crate::proofs::RequestsOwnerLemmas::of_store))]
 fn has_channel(store: &Store, kind: EntityKind, key: Key) -> bool
     ensures { (entities : List Entity) (e : Entity) → IsStoreOf entities store.now → entity_by_id entities key.entity ≡ Some e
         → e.kind ≡ kind
@@ -129,7 +129,7 @@ pub(crate) fn value_to_set(
 }
 
 // The value that a SET sends, or its first broken rule, where its control is kept by something.
-#[tactic(auto, using(crate::proofs::Owned::entity_named))]
+#[tactic(auto, using(crate::proofs::RequestsOwnerLemmas::entity_named))]
 fn value_sent(
     function: &Function,
     store: &Store,
@@ -177,7 +177,7 @@ fn value_sent(
 }
 
 // The value that bytes are, where it is legal for a control that a host may set.
-#[tactic(auto, unfolding(uac_store::specs::StoreValues::is_legal), using(crate::proofs::Sent::is_held, crate::proofs::Sent::at_most_four))]
+#[tactic(auto, unfolding(uac_store::specs::StoreValues::is_legal), using(crate::proofs::RequestsSentLemmas::is_held, crate::proofs::RequestsSentLemmas::at_most_four))]
 fn legal_value(
     function: &Function,
     store: &Store,

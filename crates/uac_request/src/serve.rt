@@ -21,7 +21,7 @@ use uac_store::Store;
 use uac_topology::Function;
 
 /// What a request for a control's value is told (Audio Class 2.0, 5.2.2).
-#[tactic(auto, unfolding(crate::specs::Requests::reply_of, crate::specs::Requests::after_request), using(crate::proofs::Asked::answered_cur, crate::proofs::Asked::left_cur))]
+#[tactic(auto, unfolding(crate::specs::Requests::reply_of, crate::specs::Requests::after_request), using(crate::proofs::RequestsRuleLemmas::answered_cur, crate::proofs::RequestsRuleLemmas::left_cur))]
 pub(crate) fn get_cur(
     function: &Function,
     store: &Store,
@@ -52,7 +52,7 @@ pub(crate) fn get_cur(
 }
 
 /// What a request for a control's ranges is told (Audio Class 2.0, 5.2.1).
-#[tactic(auto, unfolding(crate::specs::Requests::reply_of, crate::specs::Requests::after_request), using(crate::proofs::Asked::answered_range, crate::proofs::Asked::left_cur))]
+#[tactic(auto, unfolding(crate::specs::Requests::reply_of, crate::specs::Requests::after_request), using(crate::proofs::RequestsRuleLemmas::answered_range, crate::proofs::RequestsRuleLemmas::left_cur))]
 pub(crate) fn get_range(function: &Function, store: &Store, setup: &Setup, sent: &[u8]) -> Answer
     requires of_function { IsStoreOf function.now.entities store.now }
     requires asked { setup.now.request_type ≡ 161 }
@@ -78,7 +78,7 @@ pub(crate) fn get_range(function: &Function, store: &Store, setup: &Setup, sent:
 }
 
 /// What a request to set a control's value is told, and the controls after it (Audio Class 2.0, 5.2.2).
-#[tactic(auto, unfolding(crate::specs::Requests::reply_of, crate::specs::Requests::after_request), using(crate::proofs::Asked::answered_set, crate::proofs::Asked::left_set))]
+#[tactic(auto, unfolding(crate::specs::Requests::reply_of, crate::specs::Requests::after_request), using(crate::proofs::RequestsRuleLemmas::answered_set, crate::proofs::RequestsRuleLemmas::left_set))]
 pub(crate) fn set_cur(
     function: &Function,
     store: &mut Store,
@@ -108,7 +108,7 @@ pub(crate) fn set_cur(
 }
 
 /// What a request for the configuration is told (USB 2.0, 9.4.3).
-#[tactic(auto, unfolding(crate::specs::Requests::reply_of, crate::specs::Requests::after_request), using(crate::proofs::Asked::first_descriptor, crate::proofs::Asked::answered_descriptor, crate::proofs::Asked::left_descriptor))]
+#[tactic(auto, unfolding(crate::specs::Requests::reply_of, crate::specs::Requests::after_request), using(crate::proofs::RequestsRuleLemmas::first_descriptor, crate::proofs::RequestsRuleLemmas::answered_descriptor, crate::proofs::RequestsRuleLemmas::left_descriptor))]
 pub(crate) fn get_descriptor(function: &Function, setup: &Setup, sent: &[u8]) -> Answer
     requires asked { setup.now.request_type ≡ 128 }
     requires number { setup.now.request ≡ 6 }
@@ -133,7 +133,7 @@ pub(crate) fn get_descriptor(function: &Function, setup: &Setup, sent: &[u8]) ->
 }
 
 /// What a request for an interface's setting is told (USB 2.0, 9.4.4).
-#[tactic(auto, unfolding(crate::specs::Requests::reply_of, crate::specs::Requests::after_request), using(crate::proofs::Asked::first_interface, crate::proofs::Asked::answered_interface, crate::proofs::Asked::left_interface))]
+#[tactic(auto, unfolding(crate::specs::Requests::reply_of, crate::specs::Requests::after_request), using(crate::proofs::RequestsRuleLemmas::first_interface, crate::proofs::RequestsRuleLemmas::answered_interface, crate::proofs::RequestsRuleLemmas::left_interface))]
 pub(crate) fn get_interface(
     function: &Function,
     settings: &Settings,
@@ -160,7 +160,7 @@ pub(crate) fn get_interface(
 }
 
 /// What a request to set an interface's setting is told, and the settings after it (USB 2.0, 9.4.10).
-#[tactic(auto, unfolding(crate::specs::Requests::reply_of, crate::specs::Requests::after_request), using(crate::proofs::Asked::first_set_interface, crate::proofs::Asked::answered_set_interface, crate::proofs::Asked::left_set_interface))]
+#[tactic(auto, unfolding(crate::specs::Requests::reply_of, crate::specs::Requests::after_request), using(crate::proofs::RequestsRuleLemmas::first_set_interface, crate::proofs::RequestsRuleLemmas::answered_set_interface, crate::proofs::RequestsRuleLemmas::left_set_interface))]
 pub(crate) fn set_interface(
     function: &Function,
     store: &Store,
@@ -203,7 +203,7 @@ fn can_hold(function: &Function, store: &Store, interface: u8, setting: u8) -> b
 }
 
 // What keeps the control that a request names, or the rule by which it is stalled where nothing does.
-#[tactic(auto, using(crate::proofs::Asked::no_interface, crate::proofs::Asked::no_owner))]
+#[tactic(auto, using(crate::proofs::RequestsRuleLemmas::no_interface, crate::proofs::RequestsRuleLemmas::no_owner))]
 fn owner_named<'a>(function: &'a Function, setup: &Setup) -> Result<Owner<'a>, u8>
     requires { is_to_control setup.now ≡ true }
     ensures none { IfErr result

@@ -57,7 +57,7 @@ fn bit_of(function: &Function, store: &Store, stream: &StreamInterface, number: 
 }
 
 // The bit of a number, where it has one in two bytes.
-#[tactic(auto, using(crate::proofs::Maps::high_power))]
+#[tactic(auto, using(crate::proofs::RequestsValidLemmas::high_power))]
 fn bit_at(number: u8) -> u64
     ensures value { result ≡ 2 ^ number % 65536 }
     ensures few { result < 65536 }

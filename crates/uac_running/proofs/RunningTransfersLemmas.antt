@@ -6,7 +6,7 @@ use Rattle.std.specs.List.{find}
 use Rattle.std.proofs.Common.{arith}
 use Rattle.std.proofs.lemmas.List.Folds.{find_at}
 use Rattle.std.proofs.lemmas.Option.{slice_get_past}
-use Rattle.uac_topology_rules.proofs.Found.{position_is, position_none}
+use Rattle.uac_topology_rules.proofs.ListFindLemmas.{position_is, position_none}
 use Rattle.uac_store.specs.Keyed.{value_of}
 use Rattle.uac_mixer.specs.ViewTransfers.{came_of_get}
 use Rattle.uac_mixer.specs.declared.element.Element.{Element}
@@ -261,13 +261,13 @@ break_set meters r p q after stands is =
 
 -- ---- elements
 
--- there is an element at a place
+-- there is an element at an index
 pub an_element : (xs : List Element) (at : ℕ) → at < length xs → (x : Element) × (slice_get xs at ≡ Some x)
 an_element [] at below = absurd (omega arith)
 an_element (x ∷ xs) zero below = (x, refl)
 an_element (x ∷ xs) (suc n) below = an_element xs n (omega arith)
 
--- the first that passes a test, by its place
+-- the first that passes a test, by its index
 pub found_at : (p : Element → Bool) (xs ys : List Element) (at : Option ℕ) → xs ≡ ys → at ≡ position p xs → option_and_then (slice_get ys) at ≡ find p ys
 found_at p xs ys at same is =
     ap (option_and_then (slice_get ys)) (is ∙ ap (position p) same) ∙ first p ys

@@ -17,8 +17,9 @@ use Rattle.uac_mixer.specs.declared.element.Element.{Element}
 use Rattle.uac_mixer.specs.declared.link.Broken.{Broken}
 use Rattle.uac_mixer.specs.declared.link.When.{When}
 use Rattle.uac_mixer.specs.declared.link.When.TheVariants as when
-use Rattle.uac_transcript.specs.Transcript.{TransferOutcome, gave, was_done, stalled, broke, Sight, has_value, is_unknown, was_set}
-use Rattle.uac_transcript.specs.Transcript.{was_stalled}
+use Rattle.uac_transcript.specs.Transcript.{TransferOutcome, gave, was_done, transfer_was_stalled, broke, Sight, element_has_value}
+use Rattle.uac_transcript.specs.Transcript.{is_unknown, was_set}
+use Rattle.uac_transcript.specs.Transcript.{element_was_stalled}
 use Rattle.uac_transcript.specs.Transcript.{was_broken, says_answer, says_view}
 use Rattle.uac_running.specs.RunningWorld.{RunningWorld, streaming_of, with_streaming}
 use Rattle.uac_streaming.specs.Telling.{Telling, without_event}
@@ -85,7 +86,7 @@ outcome_of configuration None = broke
 outcome_of configuration (Some (with_bytes bytes)) = gave bytes
 outcome_of configuration (Some (with_descriptor from to)) = gave (piece from to configuration)
 outcome_of configuration (Some is_done) = was_done
-outcome_of configuration (Some (is_stalled rule)) = stalled rule
+outcome_of configuration (Some (is_stalled rule)) = transfer_was_stalled rule
 
 -- a control transfer
 unfoldable pub transfer : Setup → List ℕ → RunningWorld → Telling RunningWorld
@@ -103,7 +104,8 @@ element_named r name = find (λ x. bytes_eq (name_of x) name) r.view.elements
 
 -- an element's value is read: it is the device's, unless the transfer breaks
 abbrev pub read_sight : Element → RunningWorld → Sight
-read_sight x r = if is_some r.breaks then was_broken else has_value (name_of x) (unwrap_or (value_of r.device.controls x.key) (pos 0))
+read_sight x r = if is_some r.breaks then was_broken else element_has_value (name_of x)
+    (unwrap_or (value_of r.device.controls x.key) (pos 0))
 
 unfoldable pub read_element : Element → RunningWorld → Telling RunningWorld
 read_element x r =
@@ -118,7 +120,7 @@ set_sight None = was_broken
 set_sight (Some (with_bytes bytes)) = was_set
 set_sight (Some (with_descriptor from to)) = was_set
 set_sight (Some is_done) = was_set
-set_sight (Some (is_stalled rule)) = was_stalled rule
+set_sight (Some (is_stalled rule)) = element_was_stalled rule
 
 unfoldable pub set_element : Element → ℤ → RunningWorld → Telling RunningWorld
 set_element x value r =
@@ -129,7 +131,7 @@ set_element x value r =
 -- what the host knows of an element is shown, without a transfer
 abbrev pub shown_sight : Element → Option ℤ → Sight
 shown_sight x None = is_unknown (name_of x)
-shown_sight x (Some value) = has_value (name_of x) value
+shown_sight x (Some value) = element_has_value (name_of x) value
 
 unfoldable pub show_element : Element → RunningWorld → Telling RunningWorld
 show_element x r = record (without_event r) { lines = says_view (shown_sight x x.value) ∷ [] }

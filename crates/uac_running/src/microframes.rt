@@ -223,8 +223,8 @@ impl Running {
         ensures cause { HasCause (K.faults sink.old) (K.faults sink.new) result }
         ensures function { self.new.device.function ≡ self.old.device.function }
     {
-        for place in 0..self.domain_count() {
-            self.domain_microframe(self.clock_at(place), rack, meters, sink)?;
+        for index in 0..self.domain_count() {
+            self.domain_microframe(self.clock_at(index), rack, meters, sink)?;
         }
         Ok(())
     }
@@ -236,12 +236,12 @@ impl Running {
         self.device.function().domains().len()
     }
 
-    /// The clock of the domain at a place.
-    fn clock_at(&self, place: usize) -> u8
-        requires { place < length self.now.device.function.domains }
-        ensures { result ≡ slice_index self.now.device.function.domains place }
+    /// The clock of the domain at an index.
+    fn clock_at(&self, index: usize) -> u8
+        requires { index < length self.now.device.function.domains }
+        ensures { result ≡ slice_index self.now.device.function.domains index }
     {
-        self.device.function().domains()[place]
+        self.device.function().domains()[index]
     }
 
     /// A domain's part of a microframe.

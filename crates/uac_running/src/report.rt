@@ -109,9 +109,9 @@ fn write_stream<K: Sink>(
     streaming: &Streaming,
     stream: &StreamInterface,
 ) -> Result<(), Failed>
-    ensures written { (w : DeviceWorld) (met : ℕ → StreamCounts) (place : ℕ) → DeviceStands device.now w
+    ensures written { (w : DeviceWorld) (met : ℕ → StreamCounts) (index : ℕ) → DeviceStands device.now w
         → streaming.now.met ≡ met_in met w.function
-        → stream_index w.function stream.now.number ≡ Some place
+        → stream_index w.function stream.now.number ≡ Some index
         → Writes (K.written sink.old) (K.written sink.new) result (spelling_of (stream_line w met stream.now)) }
     ensures cause { HasCause (K.faults sink.old) (K.faults sink.new) result }
 {

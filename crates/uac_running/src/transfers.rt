@@ -188,7 +188,7 @@ impl Running {
         &front[front.len().min(from as usize)..]
     }
 
-    /// The place of the first element with a name.
+    /// The index of the first element with a name.
     pub fn element(&self, name: &[u8]) -> Option<usize>
         ensures named { (meters : List Reading) (r : RunningWorld) → RunningStandsBetween self.now meters r
             → option_and_then (slice_get r.view.elements) result ≡ element_named r name.now }
@@ -197,7 +197,7 @@ impl Running {
         self.view.find(name)
     }
 
-    /// The element at a place.
+    /// The element at an index.
     fn element_at(&self, at: usize) -> Element
         requires { at < length self.now.view.elements }
         ensures { slice_get self.now.view.elements at ≡ Some result }
@@ -205,7 +205,7 @@ impl Running {
         self.view.elements()[at]
     }
 
-    /// Whether a value fits the bytes of the element at a place.
+    /// Whether a value fits the bytes of the element at an index.
     pub fn fits(&self, at: usize, value: i32) -> bool
         requires { at < length self.now.view.elements }
         ensures { (x : Element) → slice_get self.now.view.elements at ≡ Some x → result ≡ fits_element x.kind value }
@@ -213,7 +213,7 @@ impl Running {
         self.element_at(at).kind.fits(value)
     }
 
-    /// Reads the element at a place from the device, and prints its value.
+    /// Reads the element at an index from the device, and prints its value.
     pub fn read_element<K: Sink>(&mut self, at: usize, sink: &mut K) -> Result<(), Failed>
         requires { at < length self.old.view.elements }
         ensures tells { (meters : List Reading) (r : RunningWorld) (x : Element) → RunningStandsBetween self.old meters r
@@ -228,7 +228,7 @@ impl Running {
         }
     }
 
-    /// The value of the element at a place, as the device tells it.
+    /// The value of the element at an index, as the device tells it.
     fn read(&mut self, at: usize) -> Result<i32, Broken>
         requires { at < length self.old.view.elements }
         ensures stands { (meters : List Reading) (r : RunningWorld) (x : Element) → RunningStands self.old meters r
@@ -244,7 +244,7 @@ impl Running {
         self.view.get(at, &mut link)
     }
 
-    /// Sets the element at a place, and prints how that went.
+    /// Sets the element at an index, and prints how that went.
     pub fn set_element<K: Sink>(
         &mut self,
         at: usize,
@@ -265,7 +265,7 @@ impl Running {
         }
     }
 
-    /// The device is asked to hold a value of the element at a place.
+    /// The device is asked to hold a value of the element at an index.
     fn set(&mut self, at: usize, value: i32) -> Result<(), SetFault>
         requires at { at < length self.old.view.elements }
         requires fits { (x : Element) → slice_get self.old.view.elements at ≡ Some x → fits_element x.kind value ≡ true }
@@ -284,7 +284,7 @@ impl Running {
         self.view.set(at, value, &mut link)
     }
 
-    /// Prints what the host knows of the element at a place.
+    /// Prints what the host knows of the element at an index.
     pub fn show_element<K: Sink>(&self, at: usize, sink: &mut K) -> Result<(), Failed>
         requires { at < length self.now.view.elements }
         ensures printed { (x : Element) → slice_get self.now.view.elements at ≡ Some x

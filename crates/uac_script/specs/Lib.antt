@@ -6,7 +6,7 @@ pub mod ScriptLines
 pub mod Line
 -- What the laws say besides.
 pub mod ScriptNumerals
-pub mod LineReading
+pub mod LineParsing
 pub mod Saying
 -- What the contracts below them cite: steps of the code, no part of what is promised.
 pub mod Lent

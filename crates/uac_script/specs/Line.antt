@@ -25,14 +25,14 @@ tone_words silent = codes "none" ∷ []
 tone_words (ramp_tone start step) = codes "ramp" ∷ numeral start ∷ numeral step ∷ []
 tone_words (noise_tone seed) = codes "noise" ∷ numeral seed ∷ []
 
-abbrev pub letter_of : MarkKind → ℕ
-letter_of Out = 111
-letter_of In = 105
-letter_of Feedback = 102
+abbrev pub letter_of_mark : MarkKind → ℕ
+letter_of_mark Out = 111
+letter_of_mark In = 105
+letter_of_mark Feedback = 102
 
 -- a mark: `o`, `i` or `f` and the interface's number, in one word
 abbrev pub mark_word : PhraseMark → Word
-mark_word mark = letter_of mark.kind ∷ numeral mark.interface
+mark_word mark = letter_of_mark mark.kind ∷ numeral mark.interface
 
 -- the words make the line: each case is a row of the table of lines
 abbrev pub IsRow : List Word → Phrase → Type 0

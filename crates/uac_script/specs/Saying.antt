@@ -3,7 +3,7 @@ use Rattle.std.specs.Prelude.{◌≡◌, ℕ, ◌↔◌, List, map, Result}
 use Rattle.std.specs.List.{AllZip}
 use Rattle.uac_script.specs.Phrase.{Phrase}
 use Rattle.uac_script.specs.Line.{Says}
-use Rattle.uac_script.specs.LineReading.{answer}
+use Rattle.uac_script.specs.LineParsing.{answer}
 
 -- the text says this, and nothing else
 pub record SaysThis (text : List ℕ) : Type 0 where

@@ -2,7 +2,7 @@
 ghost use Rattle.std.specs.Prelude.{◌≡◌, ◌≤◌, length, Option, None, IfSome};
 ghost use Rattle.std.specs.Option.{option_copied};
 ghost use Rattle.uac_script.specs.Words.{hex_of};
-ghost use Rattle.uac_script.specs.LineReading.{setup_bytes_in};
+ghost use Rattle.uac_script.specs.LineParsing.{setup_bytes_in};
 
 use hex::FromHex;
 

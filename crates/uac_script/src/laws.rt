@@ -12,7 +12,7 @@ pub fn each_line_says_one_thing()
 {}
 
 /// Two values of `Line` that stand for one line are the same.
-#[tactic(auto, using(crate::proofs::Spellings::same_line))]
+#[tactic(auto, using(crate::proofs::LineUniqueLemmas::same_line))]
 pub fn a_line_has_one_value()
     ensures { (a b : Line) → phrase_of a ≡ phrase_of b → a ≡ b }
 {}

@@ -1,6 +1,6 @@
 // A line whose long parts lie elsewhere, and the room for them.
 use crate::line::{Line, Mark};
-use crate::reading::read_into;
+use crate::parsing::read_into;
 use arrayvec::ArrayVec;
 use uac_pcm::Tone;
 
@@ -61,7 +61,7 @@ impl LineRoom {
 
 impl<'a> LentLine<'a> {
     ghost use Rattle.std.specs.Prelude.{◌≡◌, ◌≤◌, length, IfOk, IfErr};
-    ghost use Rattle.uac_script.specs.LineReading.{answer};
+    ghost use Rattle.uac_script.specs.LineParsing.{answer};
     ghost use Rattle.uac_script.specs.Lent.{lent_phrase_result, IsLentInRange};
 
     /// The line that a text of at most 4,096 bytes spells, as `Line::read` reads it. `room` holds its long parts, but for a name.

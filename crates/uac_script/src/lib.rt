@@ -18,7 +18,7 @@ mod numbers;
 /// A line with its long parts in itself.
 mod owned;
 /// A whole line, by its first word.
-mod reading;
+mod parsing;
 /// The rows of the table of lines.
 mod rows;
 /// The words of a line, one after the other.
@@ -27,7 +27,7 @@ mod words;
 pub use lent::{LentLine, LineRoom};
 pub use line::{Line, Mark, MarkKind, Name};
 pub use lines::{LineStop, Lines, Next};
-pub use reading::is_idle;
+pub use parsing::is_idle;
 pub use uac_edges::{
     Failed, MemorySink, MemorySource, Sink, Source, StdSink, StdSource, SteadySource, TextLine,
     give_all,

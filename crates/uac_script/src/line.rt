@@ -1,5 +1,5 @@
 // A line of the script, and reading one.
-use crate::reading::read;
+use crate::parsing::read;
 use arrayvec::ArrayVec;
 use uac_pcm::Tone;
 
@@ -80,7 +80,7 @@ pub enum Line {
 
 impl Line {
     ghost use Rattle.std.specs.Prelude.{◌≡◌, ◌≤◌, length, IfOk, IfErr};
-    ghost use Rattle.uac_script.specs.LineReading.{phrase_result, answer};
+    ghost use Rattle.uac_script.specs.LineParsing.{phrase_result, answer};
     ghost use Rattle.uac_script.specs.Line.{Says, IsLineInRange};
 
     /// The line that a text of at most 4,096 bytes spells.

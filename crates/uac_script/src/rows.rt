@@ -3,13 +3,13 @@ ghost use Rattle.std.specs.Prelude.{◌≡◌, ◌≤◌, ◌==◌, length, Opti
 ghost use Rattle.std.specs.Option.{option_copied};
 ghost use Rattle.uac_script.specs.Words.{words_left, bytes_left};
 ghost use Rattle.uac_script.specs.ScriptNumerals.{is_number};
-ghost use Rattle.uac_script.specs.LineReading.{tone_result, signal_result, verdict_of, tone_verdict, signal_verdict, name_in, only_of};
-ghost use Rattle.uac_script.specs.LineReading.{then_of};
-ghost use Rattle.uac_script.specs.LineReading.{when_empty, bytes_line_of, control_line_of, element_line_of, break_line_of, tone_read};
-ghost use Rattle.uac_script.specs.LineReading.{signal_of};
-ghost use Rattle.uac_script.specs.LineReading.{track_line_of};
-ghost use Rattle.uac_script.specs.LineReading.{jack_line_of, deviate_line_of, detail_line_of, set_line_of, pair_of, sent_of, ramp_of};
-ghost use Rattle.uac_script.specs.LineReading.{from_number};
+ghost use Rattle.uac_script.specs.LineParsing.{tone_result, signal_result, verdict_of, tone_verdict, signal_verdict, name_in, only_of};
+ghost use Rattle.uac_script.specs.LineParsing.{then_of};
+ghost use Rattle.uac_script.specs.LineParsing.{when_empty, bytes_line_of, control_line_of, element_line_of, break_line_of, tone_read};
+ghost use Rattle.uac_script.specs.LineParsing.{signal_of};
+ghost use Rattle.uac_script.specs.LineParsing.{track_line_of};
+ghost use Rattle.uac_script.specs.LineParsing.{jack_line_of, deviate_line_of, detail_line_of, set_line_of, pair_of, sent_of, ramp_of};
+ghost use Rattle.uac_script.specs.LineParsing.{from_number};
 ghost use Rattle.uac_script.specs.Phrase.{silent, noise_tone, is_in_range};
 ghost use Rattle.uac_script.specs.Lent.{lent_phrase, lent_phrase_result, Fits};
 

@@ -2,7 +2,7 @@
 ghost use Rattle.std.specs.Prelude.{◌≡◌, ◌+◌, ◌≤◌, IfSome, [], ◌∷◌, length, List, ◌==◌, position, MatchBool, MatchOption};
 ghost use Rattle.std.specs.Option.{option_copied};
 ghost use Rattle.uac_script.specs.Words.{Word, words_left, bytes_left, pair_now};
-ghost use Rattle.uac_script.specs.LineReading.{only_of, pair_of};
+ghost use Rattle.uac_script.specs.LineParsing.{only_of, pair_of};
 
 /// The words of a line that are still to be read.
 #[derive(Clone, Copy)]

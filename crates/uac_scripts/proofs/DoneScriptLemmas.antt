@@ -4,24 +4,24 @@ use Rattle.std.specs.List.{AllByRecursion}
 use Rattle.std.proofs.lemmas.List.{append-nil}
 use Rattle.uac_units.specs.Hearing.{Reading}
 use Rattle.uac_script.specs.ScriptLines.{Head, line, long, past, unended, head_of, most_of_input}
-use Rattle.uac_script.specs.LineReading.{answer}
-use Rattle.uac_script.proofs.Heads.{head_unended-all}
+use Rattle.uac_script.specs.LineParsing.{answer}
+use Rattle.uac_script.proofs.ScriptLinesLemmas.{head_unended-all}
 use Rattle.uac_transcript.specs.Printing.{text_of}
 use Rattle.uac_transcript.specs.Transcript.{Said}
 use Rattle.uac_transcript.proofs.PrintingLemmas.{text_of-append}
 use Rattle.uac_bus.specs.declared.fault.BusFault.TheVariants as faults
 use Rattle.uac_bus.specs.BusWorld.{BusWorld, Step, describing, done, refused, running, start}
 use Rattle.uac_bus.specs.After.{After, after, and_then, said_step}
-use Rattle.uac_promises.proofs.AllScripts.{all_scripts_keep_promises}
+use Rattle.uac_promises.proofs.PromisesLemmas.{all_scripts_keep_promises}
 use Rattle.uac_describe.specs.Outcome.{End, Outcome, at_end, no_memory, read_failed, stopped}
 use Rattle.uac_edges.specs.TextLines.{with_newlines}
 use Rattle.uac_scripts.specs.Script.{IsScriptLine, IsWanted}
 use Rattle.uac_scripts.specs.ScriptTranscript.{Ending, after_step, with_text_first, ends, ending_at, lines_by}
 use Rattle.uac_scripts.specs.Computed.{by_head, goes, goes_within, rest_done, transcript}
 use Rattle.uac_scripts.specs.DoneScript.{AreFirst, IsLast, IsDoneScript, at_the_end, at_a_refusal, at_a_long_line, past_the_limit, at_a_failed_read, at_a_failed_write, without_memory}
-use Rattle.uac_scripts.proofs.Agreeing.{all_say}
-use Rattle.uac_scripts.proofs.Cutting.{front_cut, rest_cut}
-use Rattle.uac_scripts.proofs.Going.{with_text_first-with_text_first}
+use Rattle.uac_scripts.proofs.ComputedLemmas.{all_say}
+use Rattle.uac_scripts.proofs.ScriptCutLemmas.{front_cut, rest_cut}
+use Rattle.uac_scripts.proofs.ScriptTranscriptLemmas.{with_text_first-with_text_first}
 
 -- lines that were done in a world, the first ones of these bytes
 pub record IsDoneScriptFrom (w : BusWorld) (bytes : List ℕ) (ending : Ending) : Type 0 where

@@ -1,9 +1,9 @@
-pub mod Agreeing
-pub mod Completing
-pub mod Cutting
-pub mod Following
-pub mod Going
-pub mod HandingOn
-pub mod Idle
+pub mod ComputedLemmas
+pub mod ScriptTranscriptWholeLemmas
+pub mod ScriptCutLemmas
+pub mod RunLinesLemmas
+pub mod ScriptTranscriptLemmas
+pub mod RunningHandingOnLemmas
+pub mod RunningIdleLemmas
 pub mod DoneScriptLemmas
 pub mod ScriptLemmas

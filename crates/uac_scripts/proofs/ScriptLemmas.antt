@@ -10,9 +10,9 @@ use Rattle.uac_script.specs.ScriptLines.{line, head_of, most_of_input}
 use Rattle.uac_script.specs.Line.{Says}
 use Rattle.uac_script.specs.Looking.{line_end}
 use Rattle.uac_script.specs.Phrase.{Phrase}
-use Rattle.uac_script.specs.LineReading.{answer}
-use Rattle.uac_script.proofs.Heads.{head_line, line_end_in}
-use Rattle.uac_script.proofs.Sayings.{each_says_once}
+use Rattle.uac_script.specs.LineParsing.{answer}
+use Rattle.uac_script.proofs.ScriptLinesLemmas.{head_line, line_end_in}
+use Rattle.uac_script.proofs.SayingLemmas.{each_says_once}
 use Rattle.uac_transcript.specs.Printing.{text_of}
 use Rattle.uac_transcript.proofs.PrintingLemmas.{text_of-append}
 use Rattle.uac_bus.specs.declared.fault.BusFault.{BusFault}
@@ -23,7 +23,7 @@ use Rattle.uac_edges.specs.TextLines.{with_newlines}
 use Rattle.uac_scripts.specs.Script.{IsScriptLine, go_unless_refused, come_to}
 use Rattle.uac_scripts.specs.ScriptTranscript.{Ending, after_step, with_text_first, ends, last_line}
 use Rattle.uac_scripts.specs.Computed.{goes, transcript}
-use Rattle.uac_scripts.proofs.Going.{with_text_first-with_text_first, goes_at}
+use Rattle.uac_scripts.proofs.ScriptTranscriptLemmas.{with_text_first-with_text_first, goes_at}
 
 -- ---- a line stands first
 

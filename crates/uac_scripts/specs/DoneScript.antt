@@ -9,7 +9,7 @@ use Rattle.uac_bus.specs.declared.fault.BusFault.{BusFault}
 use Rattle.uac_bus.specs.BusWorld.{start}
 use Rattle.uac_bus.specs.After.{after}
 use Rattle.uac_steady.specs.Scripts.{is_steady_in}
-use Rattle.uac_promises.specs.Promises.{KeepsPromises}
+use Rattle.uac_promises.specs.Promises.{IsAsPromised}
 use Rattle.uac_describe.specs.declared.status.Status.TheVariants as statuses
 use Rattle.uac_describe.specs.Outcome.{Outcome, no_memory, read_fault}
 use Rattle.uac_edges.specs.TextLines.{with_newlines}
@@ -47,4 +47,4 @@ pub record IsDoneScript (shown : List Reading) (taken : List ℕ) (ending : Endi
   pub last : Outcome
   pub is_last : IsLast last
   pub printed : ending ≡ with_text_first (text_of (after saids (start shown)).lines) (ends last (after saids (start shown)).world)
-  pub promised : is_steady_in (after saids (start shown)).world ≡ true → KeepsPromises saids shown
+  pub promised : is_steady_in (after saids (start shown)).world ≡ true → IsAsPromised saids shown

@@ -7,7 +7,7 @@ use Rattle.uac_scripts.specs.declared.jobs.SourceJob.{SourceJob}
 use Rattle.uac_scripts.specs.declared.jobs.SourceJob.TheVariants.{Describe, Run}
 use Rattle.uac_describe.specs.declared.status.Status.{Status}
 use Rattle.uac_describe.specs.declared.status.Status.TheVariants as statuses
-use Rattle.uac_describe.specs.SourceReading.{StopsThere}
+use Rattle.uac_describe.specs.SourceParsing.{StopsThere}
 use Rattle.uac_describe.specs.Closing.{Closes, HasEnded}
 use Rattle.uac_describe.specs.Outcome.{End, stopped, Outcome, no_memory, IsOutcomeOf}
 use Rattle.uac_scripts.specs.ScriptTranscript.{Ending, IsTranscript, no_more_text}

@@ -5,7 +5,7 @@ ghost use Rattle.uac_units.specs.Hearing.{Reading};
 ghost use Rattle.uac_script.specs.Line.{Says};
 ghost use Rattle.uac_script.specs.ScriptLines.{most_of_input};
 ghost use Rattle.uac_script.specs.Phrase.{Phrase};
-ghost use Rattle.uac_script.specs.LineReading.{answer};
+ghost use Rattle.uac_script.specs.LineParsing.{answer};
 ghost use Rattle.uac_bus.specs.BusWorld.{start};
 ghost use Rattle.uac_bus.specs.After.{after};
 ghost use Rattle.uac_describe.specs.declared.status.Status.{Status};
@@ -36,7 +36,7 @@ pub fn script_is_what_its_lines_say()
 
 /// A refusal that stands in the bytes of a script is that of every longer script that begins with them: text, status and meters are
 /// the same. (Where nothing is refused yet, the bytes alone come to no last line.)
-#[tactic(auto, using(crate::proofs::Completing::transcript_stays))]
+#[tactic(auto, using(crate::proofs::ScriptTranscriptWholeLemmas::transcript_stays))]
 pub fn refusal_stays()
     ensures { (shown : List Reading) (taken more : List ℕ) (end : End) → (transcript shown taken stopped).outcome.status ≢ Status.WriteFault
         → transcript shown (taken ++ more) end ≡ transcript shown taken stopped }

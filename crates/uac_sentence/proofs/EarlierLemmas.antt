@@ -6,24 +6,24 @@ use Rattle.std.proofs.lemmas.Bool.{and_left}
 use Rattle.uac_descriptor.specs.declared.block.Block as block
 use Rattle.uac_sentence.specs.declared.letters.Letter.{Letter}
 use Rattle.uac_sentence.specs.declared.letters.Letter.TheVariants as letter
-use Rattle.uac_sentence.specs.declared.stages.Stage.{Stage}
-use Rattle.uac_sentence.specs.declared.stages.Stage.TheVariants.{Start, Due, Opening, Before, Announced, Headless, Listing, Quiet, Setting, Formats, Formatted, FirstEndpoint, FirstDone, SecondEndpoint, Closing, ForeignAfter}
+use Rattle.uac_sentence.specs.declared.stages.OrderStage.{OrderStage}
+use Rattle.uac_sentence.specs.declared.stages.OrderStage.TheVariants.{Start, Due, Opening, Before, Announced, Headless, Listing, Quiet, Setting, Formats, Formatted, FirstEndpoint, FirstDone, SecondEndpoint, Closing, ForeignAfter}
 use Rattle.uac_sentence.specs.declared.states.State.{State}
 use Rattle.uac_sentence.specs.Letter.{letter_of, is_listed}
 use Rattle.uac_sentence.specs.Steps.{next_stage, may_end, is_before_association}
 use Rattle.uac_sentence.specs.Grammar.{start, state_after, stage_after, is_due, is_announced, is_headless, is_listing, is_past_control, lacks_association, lists_unknown, comes_again, is_audio_interface, is_control, is_unknown, is_association}
 use Rattle.uac_sentence.specs.Progress.{state_following, BreakNone, HasRead}
 use Rattle.uac_sentence.specs.Earlier.{is_same, has, latest_is, is_header_list, is_in_list, is_unknown_in_list, stands_without_association, is_second}
-use Rattle.uac_sentence.proofs.Parts.{bytes_in, broken_passes, step_there}
+use Rattle.uac_sentence.proofs.GrammarLemmas.{bytes_in, broken_passes, step_there}
 
 -- the stage to which letters lead, one after the other
-abbrev pub lead : Option Stage → List Letter → Option Stage
+abbrev pub lead : Option OrderStage → List Letter → Option OrderStage
 lead s [] = s
 lead None (k ∷ ks) = None
 lead (Some s) (k ∷ ks) = lead (next_stage s k) ks
 
 -- the stage after the first blocks of a descriptor
-abbrev pub stage_following : List Letter → Option Stage
+abbrev pub stage_following : List Letter → Option OrderStage
 stage_following ks = lead (Some Start) ks
 
 pub lead_none : (ks : List Letter) → lead None ks ≡ None
@@ -31,7 +31,7 @@ lead_none [] = refl
 lead_none (k ∷ ks) = refl
 
 -- one letter more
-pub lead-push : (o : Option Stage) (ks : List Letter) (s : Stage) (k : Letter) → lead o ks ≡ Some s → lead o (ks ++ k ∷ []) ≡ next_stage s k
+pub lead-push : (o : Option OrderStage) (ks : List Letter) (s : OrderStage) (k : Letter) → lead o ks ≡ Some s → lead o (ks ++ k ∷ []) ≡ next_stage s k
 lead-push None [] s k e = cc
 lead-push (Some t) [] s k e = (let same : t ≡ s = cc in ap (λ u. next_stage u k) same)
 lead-push None (j ∷ ks) s k e = cc
@@ -40,12 +40,12 @@ lead-push (Some t) (j ∷ ks) s k e = lead-push (next_stage t j) ks s k e
 -- ---- the stage
 
 -- what a stage says of the letters before it, and what it says after one more
-abbrev told : Option Stage → List Bool
+abbrev told : Option OrderStage → List Bool
 told None = []
 told (Some t) =
     not (is_before_association t) ∷ is_past_control t ∷ not (is_due t) ∷ is_announced t ∷ is_headless t ∷ is_listing t ∷ []
 
-abbrev tells : Option Stage → Stage → Letter → List Bool
+abbrev tells : Option OrderStage → OrderStage → Letter → List Bool
 tells None s k = []
 tells (Some t) s k =
     (is_same letter.AudioAssociation k || not (is_before_association s))
@@ -55,7 +55,7 @@ tells (Some t) s k =
     ∷ is_same letter.ControlInterface k
     ∷ (is_headless s && is_same letter.Header k || is_listing s && is_listed k) ∷ []
 
-told_following : (s : Stage) (k : Letter) → told (next_stage s k) ≡ tells (next_stage s k) s k
+told_following : (s : OrderStage) (k : Letter) → told (next_stage s k) ≡ tells (next_stage s k) s k
 told_following Start letter.Device = refl
 told_following Start k = refl
 told_following Due letter.Device = refl
@@ -89,17 +89,17 @@ told_following Closing k = refl
 told_following ForeignAfter letter.Device = refl
 told_following ForeignAfter k = refl
 
-told_at : (n : ℕ) (s t : Stage) (k : Letter) → next_stage s k ≡ Some t → get_or (told (Some t)) n false ≡ get_or (tells (Some t) s k) n false
+told_at : (n : ℕ) (s t : OrderStage) (k : Letter) → next_stage s k ≡ Some t → get_or (told (Some t)) n false ≡ get_or (tells (Some t) s k) n false
 told_at n s t k e = ap (λ bits. get_or bits n false) (subst (λ o. told o ≡ tells o s k) e (told_following s k))
 
 -- the first step of a lead
-pub first_step : (o : Option Stage) (ks : List Letter) (t : Stage) → lead o ks ≡ Some t → (u : Stage) × (o ≡ Some u)
+pub first_step : (o : Option OrderStage) (ks : List Letter) (t : OrderStage) → lead o ks ≡ Some t → (u : OrderStage) × (o ≡ Some u)
 first_step None ks t e = (let none : None ≡ Some t = sym (lead_none ks) ∙ e in cc)
 first_step (Some u) ks t e = (u, refl)
 
 -- a letter among those that lead to a stage
-module _ (p : Stage → Bool) (j : Letter) (keeps : (s t : Stage) (k : Letter) → next_stage s k ≡ Some t → p t ≡ (is_same j k || p s)) where
-  has_along : (s t : Stage) (ks : List Letter) → lead (Some s) ks ≡ Some t → p t ≡ (has j ks || p s)
+module _ (p : OrderStage → Bool) (j : Letter) (keeps : (s t : OrderStage) (k : Letter) → next_stage s k ≡ Some t → p t ≡ (is_same j k || p s)) where
+  has_along : (s t : OrderStage) (ks : List Letter) → lead (Some s) ks ≡ Some t → p t ≡ (has j ks || p s)
   has_along s t [] e = (let same : s ≡ t = cc in ap p (sym same))
   has_along s t (k ∷ ks) e =
       let (u, is) = first_step (next_stage s k) ks t e in
@@ -109,14 +109,14 @@ module _ (p : Stage → Bool) (j : Letter) (keeps : (s t : Stage) (k : Letter) �
       ∙ ap (λ b. b || p s) (or_comm (has j ks) (is_same j k))
 
 -- the latest letter
-module _ (p : Stage → Bool) (j : Letter) (is_latest : (s t : Stage) (k : Letter) → next_stage s k ≡ Some t → p t ≡ is_same j k) where
-  latest_along : (s t : Stage) (k : Letter) (ks : List Letter) → lead (Some s) (k ∷ ks) ≡ Some t → p t ≡ latest_is j (k ∷ ks)
+module _ (p : OrderStage → Bool) (j : Letter) (is_latest : (s t : OrderStage) (k : Letter) → next_stage s k ≡ Some t → p t ≡ is_same j k) where
+  latest_along : (s t : OrderStage) (k : Letter) (ks : List Letter) → lead (Some s) (k ∷ ks) ≡ Some t → p t ≡ latest_is j (k ∷ ks)
   latest_along s t k [] e = is_latest s t k e
   latest_along s t k (next ∷ ks) e =
       let (u, is) = first_step (next_stage s k) (next ∷ ks) t e in
       latest_along u t next ks (subst (λ o. lead o (next ∷ ks) ≡ Some t) is e)
 
-  latest_following : p Start ≡ false → (t : Stage) (ks : List Letter) → stage_following ks ≡ Some t → p t ≡ latest_is j ks
+  latest_following : p Start ≡ false → (t : OrderStage) (ks : List Letter) → stage_following ks ≡ Some t → p t ≡ latest_is j ks
   latest_following none t [] e = (let same : Start ≡ t = cc in ap p (sym same) ∙ none)
   latest_following none t (k ∷ ks) e = latest_along Start t k ks e
 
@@ -127,7 +127,7 @@ arrange x c l hk e a =
     ∙ ap (λ b. c && l || x || b) (and-or_distrib_right hk e a)
     ∙ sym (or_assoc (c && l || x) (hk && a) (e && a))
 
-listed_along : (s t : Stage) (ks : List Letter) → lead (Some s) ks ≡ Some t
+listed_along : (s t : OrderStage) (ks : List Letter) → lead (Some s) ks ≡ Some t
     → is_listing t ≡ (is_in_list ks || is_headless s && is_header_list ks || is_listing s && list_all is_listed ks)
 listed_along s t [] e = (let same : s ≡ t = cc in ap is_listing (sym same) ∙ at_end (is_headless s) (is_listing s))
   where
@@ -173,11 +173,11 @@ not_not : (b : Bool) → not (not b) ≡ b
 not_not true = refl
 not_not false = refl
 
-ends_after_control : (s : Stage) → may_end s ≡ (is_past_control s && not (is_headless s))
+ends_after_control : (s : OrderStage) → may_end s ≡ (is_past_control s && not (is_headless s))
 ends_after_control Start = refl
 ends_after_control s = refl
 
-module _ (ks : List Letter) (s : Stage) (e : stage_following ks ≡ Some s) where
+module _ (ks : List Letter) (s : OrderStage) (e : stage_following ks ≡ Some s) where
   association_came : not (is_before_association s) ≡ has letter.AudioAssociation ks
   association_came = has_along (λ t. not (is_before_association t)) letter.AudioAssociation (told_at 0) Start s ks e ∙ or_none (has letter.AudioAssociation ks)
 

@@ -28,7 +28,7 @@ use Rattle.uac_sentence.specs.Letter.{
   has_unknown_subtype,
 }
 use Rattle.uac_descriptor.specs.Classes.{is_audio_association, is_control_interface, is_streaming_interface}
-use Rattle.uac_descriptor.specs.BlockReading.{block_of, fields, is_whole, has_length}
+use Rattle.uac_descriptor.specs.BlockParsing.{block_of, fields, is_whole, has_length}
 use Rattle.uac_descriptor.specs.LayoutRows.{row_of, row_in}
 
 -- the first fault, with all that it is computed by

@@ -4,10 +4,10 @@ use Rattle.uac_descriptor.specs.declared.context.Context.TheVariants as context
 use Rattle.uac_descriptor.specs.declared.block.Block as block
 use Rattle.uac_descriptor.specs.declared.block.Block.TheVariants as variant
 use Rattle.uac_descriptor.specs.Classes.{is_audio_association, is_control_interface, is_streaming_interface}
-use Rattle.uac_descriptor.specs.BlockReading.{block_of, is_whole, has_length}
+use Rattle.uac_descriptor.specs.BlockParsing.{block_of, is_whole, has_length}
 use Rattle.uac_descriptor.specs.LayoutRows.{row_in, row_of}
 use Rattle.uac_descriptor.specs.Spelling.{spelling}
-use Rattle.uac_descriptor.proofs.ReadBack.{block_of-Spells}
+use Rattle.uac_descriptor.proofs.SpellingLemmas.{block_of-Spells}
 use Rattle.uac_sentence.specs.Letter.{interface_context, interface_letter, whole_letter, is_device, has_unknown_subtype}
 use Rattle.uac_sentence.specs.FirstFault.{IsFault, g1, g2, g3, g4, g5, g6, g7, g8, g9}
 

@@ -6,13 +6,13 @@ use Rattle.std.proofs.lemmas.Bool.{cases_Bool, cases_lt, true≢false, false≢t
 use Rattle.uac_descriptor.specs.declared.block.Block as block
 use Rattle.uac_descriptor.specs.Spelling.{spelling}
 use Rattle.uac_descriptor.specs.LayoutRows.{Spells}
-use Rattle.uac_descriptor.specs.BlockReading.{AreBytes, block_of}
-use Rattle.uac_descriptor.proofs.ReadBack.{block_of-Spells}
-use Rattle.uac_descriptor.proofs.SpeltAsRead.{Spells-block_of}
+use Rattle.uac_descriptor.specs.BlockParsing.{AreBytes, block_of}
+use Rattle.uac_descriptor.proofs.SpellingLemmas.{block_of-Spells}
+use Rattle.uac_descriptor.proofs.BlockParsingLemmas.{Spells-block_of}
 use Rattle.uac_sentence.specs.declared.letters.Letter.{Letter}
 use Rattle.uac_sentence.specs.declared.letters.Letter.TheVariants as letter
-use Rattle.uac_sentence.specs.declared.stages.Stage.{Stage}
-use Rattle.uac_sentence.specs.declared.stages.Stage.TheVariants.{Start, Due}
+use Rattle.uac_sentence.specs.declared.stages.OrderStage.{OrderStage}
+use Rattle.uac_sentence.specs.declared.stages.OrderStage.TheVariants.{Start, Due}
 use Rattle.uac_sentence.specs.declared.states.State.{State}
 use Rattle.uac_sentence.specs.Cutting.{IsPiece, begins_whole, chop}
 use Rattle.uac_sentence.specs.Fault.{GrammarFault, at_place, rest_rule, faults_over, faults_from}
@@ -26,7 +26,7 @@ use Rattle.uac_sentence.specs.Earlier.{is_same, has, latest_is, is_named, is_sec
 use Rattle.uac_sentence.specs.FirstFault.{context_following, context_of, NextBlock, IsAtConfiguration, HasNoLength, MissesTotal, IsMisplaced, LacksPart, Breaks, g1, g2, g3, g4, g5, g6, g7, g8, g9, IsFault, IsFirstFault}
 use Rattle.uac_sentence.proofs.CuttingLemmas.{chop_is_cut}
 use Rattle.uac_sentence.proofs.FaultLemmas.{at_place_is, option_or_some, faults_from_piece}
-use Rattle.uac_sentence.proofs.Parts.{bytes_in}
+use Rattle.uac_sentence.proofs.GrammarLemmas.{bytes_in}
 use Rattle.uac_sentence.proofs.ValuesLemmas.{right_values, no_wrong_value}
 use Rattle.uac_sentence.proofs.SentenceTotalLemmas.{size-cons}
 use Rattle.uac_sentence.proofs.SentenceLemmas.{bytes_left, bytes_right, piece_of, at_place_none}
@@ -108,7 +108,7 @@ end_ascends s place = (omega arith, (omega arith, (omega arith, (omega arith, tt
 
 -- ---- the configuration's own place
 
-due_letters : (ks : List Letter) (s : Stage) → stage_following ks ≡ Some s → has letter.Configuration ks ≡ false
+due_letters : (ks : List Letter) (s : OrderStage) → stage_following ks ≡ Some s → has letter.Configuration ks ≡ false
     → (ks ≡ []) ⊎ (ks ≡ letter.Device ∷ [])
 due_letters [] s e none = inl refl
 due_letters (k ∷ ks) s e none =

@@ -6,10 +6,10 @@ use Rattle.uac_descriptor.specs.declared.standard.Interface as interface
 use Rattle.uac_descriptor.specs.declared.block.Block as block
 use Rattle.uac_descriptor.specs.declared.block.Block.TheVariants as variant
 use Rattle.uac_descriptor.specs.Classes.{is_audio_association, is_control_interface, is_streaming_interface}
-use Rattle.uac_descriptor.specs.BlockReading.{AreBytes}
+use Rattle.uac_descriptor.specs.BlockParsing.{AreBytes}
 use Rattle.uac_sentence.specs.declared.letters.Letter.{Letter}
-use Rattle.uac_sentence.specs.declared.stages.Stage.{Stage}
-use Rattle.uac_sentence.specs.declared.stages.Stage.TheVariants.{Start, Due, Opening, Before, Announced, Headless, Listing}
+use Rattle.uac_sentence.specs.declared.stages.OrderStage.{OrderStage}
+use Rattle.uac_sentence.specs.declared.stages.OrderStage.TheVariants.{Start, Due, Opening, Before, Announced, Headless, Listing}
 use Rattle.uac_sentence.specs.declared.states.State.{State}
 use Rattle.uac_sentence.specs.Letter.{letter_of, interface_letter}
 use Rattle.uac_sentence.specs.Steps.{next_stage}
@@ -18,7 +18,7 @@ use Rattle.uac_sentence.specs.Sentence.{spellings, interface_of, Begins, Continu
 use Rattle.uac_sentence.specs.Progress.{state_following, BreakNone, HasRead}
 use Rattle.uac_sentence.specs.FirstFault.{MayBegin}
 use Rattle.uac_sentence.proofs.StepsLemmas.{Goes, goes_allows, allows_goes}
-use Rattle.uac_sentence.proofs.Parts.{bytes_in, broken_passes, step_there, TurnRun}
+use Rattle.uac_sentence.proofs.GrammarLemmas.{bytes_in, broken_passes, step_there, TurnRun}
 use Rattle.uac_sentence.proofs.SentenceTurnLemmas.{HasSmallNumbers, IsUsed, latest_of, flags_after, turn_of, of_turn, at_start, in_turn}
 use Rattle.uac_sentence.proofs.SentenceLemmas.{small_numbers}
 use Rattle.uac_sentence.proofs.EarlierLemmas.{lead, lead-push, lead_none, read_stage}
@@ -27,16 +27,16 @@ use Rattle.uac_sentence.proofs.EarlierLemmas.{lead, lead-push, lead_none, read_s
 
 -- what goes on after items goes on from the stage to which they lead, and the other way round
 module _ {A : Type 0} (f : A → Letter) where
-  pub goes_on : (s t : Stage) (xs ys : List A) → lead (Some s) (map f xs) ≡ Some t → Goes f t ys → Goes f s (xs ++ ys)
+  pub goes_on : (s t : OrderStage) (xs ys : List A) → lead (Some s) (map f xs) ≡ Some t → Goes f t ys → Goes f s (xs ++ ys)
   goes_on s t [] ys e h = (let same : s ≡ t = cc in subst (λ u. Goes f u ys) (sym same) h)
   goes_on s t (x ∷ xs) ys e h = next (next_stage s (f x)) refl e (λ u led. goes_on u t xs ys led h)
     where
-      next : (o : Option Stage) → next_stage s (f x) ≡ o → lead o (map f xs) ≡ Some t
-          → ((u : Stage) → lead (Some u) (map f xs) ≡ Some t → Goes f u (xs ++ ys)) → (u : Stage) × (next_stage s (f x) ≡ Some u) × Goes f u (xs ++ ys)
+      next : (o : Option OrderStage) → next_stage s (f x) ≡ o → lead o (map f xs) ≡ Some t
+          → ((u : OrderStage) → lead (Some u) (map f xs) ≡ Some t → Goes f u (xs ++ ys)) → (u : OrderStage) × (next_stage s (f x) ≡ Some u) × Goes f u (xs ++ ys)
       next None is e go = (let none : None ≡ Some t = sym (lead_none (map f xs)) ∙ e in cc)
       next (Some u) is e go = (u, is, go u e)
 
-  pub goes_from : (s : Stage) (xs ys : List A) → Goes f s (xs ++ ys) → (t : Stage) × (lead (Some s) (map f xs) ≡ Some t)
+  pub goes_from : (s : OrderStage) (xs ys : List A) → Goes f s (xs ++ ys) → (t : OrderStage) × (lead (Some s) (map f xs) ≡ Some t)
   goes_from s [] ys h = (s, refl)
   goes_from s (x ∷ xs) ys (u, is, h) = (let (t, e) = goes_from u xs ys h in (t, ap (λ o. lead o (map f xs)) is ∙ e))
 
@@ -54,7 +54,7 @@ the_control = record { number = 0; setting = 0; endpoints = 0; «class» = 1; su
 abbrev header : block.Block
 header = variant.Header (record { version = 0; category = 0; total = 0; controls = 0 })
 
-abbrev pub ending : Stage → List block.Block
+abbrev pub ending : OrderStage → List block.Block
 ending Start = configuration ∷ association ∷ variant.Interface the_control ∷ header ∷ []
 ending Due = configuration ∷ association ∷ variant.Interface the_control ∷ header ∷ []
 ending Opening = association ∷ variant.Interface the_control ∷ header ∷ []
@@ -64,7 +64,7 @@ ending Headless = header ∷ []
 ending _ = []
 
 -- no stage is a dead end
-pub ending_goes : (s : Stage) → Goes letter_of s (ending s)
+pub ending_goes : (s : OrderStage) → Goes letter_of s (ending s)
 unfolding interface_letter is_audio_association is_control_interface
 ending_goes Start = (Opening, refl, (Announced, refl, (Headless, refl, (Listing, refl, refl))))
 ending_goes Due = (Opening, refl, (Announced, refl, (Headless, refl, (Listing, refl, refl))))
@@ -79,7 +79,7 @@ unfolding is_streaming_interface
 no_stream h = absurd (false≢true h)
 
 -- nor does it begin a stream
-pub ending_in_turn : (earlier : List interface.Interface) (s : Stage) → InTurn earlier (filter_map interface_of (ending s))
+pub ending_in_turn : (earlier : List interface.Interface) (s : OrderStage) → InTurn earlier (filter_map interface_of (ending s))
 ending_in_turn earlier Start = (no_stream, tt)
 ending_in_turn earlier Due = (no_stream, tt)
 ending_in_turn earlier Opening = (no_stream, tt)

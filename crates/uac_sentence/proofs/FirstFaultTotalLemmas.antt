@@ -13,7 +13,7 @@ use Rattle.uac_sentence.specs.Grammar.{start, state_after, end_after, ends_befor
 use Rattle.uac_sentence.specs.Sentence.{size}
 use Rattle.uac_sentence.specs.Progress.{state_following, HasRead}
 use Rattle.uac_sentence.specs.FirstFault.{ConfigurationTotal, HeaderTotal, IsPast, IsShort}
-use Rattle.uac_sentence.proofs.Parts.{bytes_in}
+use Rattle.uac_sentence.proofs.GrammarLemmas.{bytes_in}
 use Rattle.uac_sentence.proofs.SentenceTotalLemmas.{size-cons}
 
 -- ---- each end, by a fold of its own

@@ -4,7 +4,7 @@ pub mod StepsLemmas
 pub mod CuttingLemmas
 pub mod FaultLemmas
 pub mod Examples
-pub mod Parts
+pub mod GrammarLemmas
 pub mod ValuesLemmas
 pub mod SentenceListLemmas
 pub mod SentenceTotalLemmas
@@ -17,4 +17,4 @@ pub mod FirstFaultOrderLemmas
 pub mod FirstFaultTotalLemmas
 pub mod FirstFaultLemmas
 pub mod FirstFaultExamples
-pub mod WellFormedLemmas
+pub mod SentenceWellFormedLemmas

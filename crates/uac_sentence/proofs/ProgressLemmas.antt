@@ -5,9 +5,9 @@ use Rattle.std.proofs.lemmas.Bool.{and_left, and_right, lt-leb, cases_lt, cond-t
 use Rattle.uac_descriptor.specs.declared.block.Block as block
 use Rattle.uac_descriptor.specs.Spelling.{spelling}
 use Rattle.uac_descriptor.specs.LayoutRows.{Spells}
-use Rattle.uac_descriptor.specs.BlockReading.{AreBytes, block_of}
-use Rattle.uac_descriptor.proofs.ReadBack.{block_of-Spells}
-use Rattle.uac_descriptor.proofs.SpeltAsRead.{Spells-block_of}
+use Rattle.uac_descriptor.specs.BlockParsing.{AreBytes, block_of}
+use Rattle.uac_descriptor.proofs.SpellingLemmas.{block_of-Spells}
+use Rattle.uac_descriptor.proofs.BlockParsingLemmas.{Spells-block_of}
 use Rattle.uac_sentence.specs.declared.states.State.{State}
 use Rattle.uac_sentence.specs.Cutting.{IsPiece, begins_whole}
 use Rattle.uac_sentence.specs.Fault.{at_place, faults_from}
@@ -15,7 +15,7 @@ use Rattle.uac_sentence.specs.Grammar.{grammar, start, state_after, state_read, 
 use Rattle.uac_sentence.specs.Sentence.{EachIn, SpellsItself, spellings, size, IsSentence}
 use Rattle.uac_sentence.specs.Progress.{state_following, BreakNone, HasRead}
 use Rattle.uac_sentence.proofs.FaultLemmas.{faults_from_piece, faults_from_rest}
-use Rattle.uac_sentence.proofs.Parts.{bytes_in, Clear}
+use Rattle.uac_sentence.proofs.GrammarLemmas.{bytes_in, Clear}
 use Rattle.uac_sentence.proofs.SentenceTotalLemmas.{size-cons}
 use Rattle.uac_sentence.proofs.SentenceLemmas.{piece_of, sentence_of}
 

@@ -4,11 +4,11 @@ use Rattle.std.proofs.lemmas.Bool.{true≢false, cases_Bool, cases_cond, cond-fa
 use Rattle.uac_descriptor.specs.declared.block.Block as block
 use Rattle.uac_descriptor.specs.declared.block.Block.TheVariants as variant
 use Rattle.uac_descriptor.specs.Spelling.{spelling}
-use Rattle.uac_descriptor.specs.BlockReading.{AreBytes}
+use Rattle.uac_descriptor.specs.BlockParsing.{AreBytes}
 use Rattle.uac_sentence.specs.declared.letters.Letter.{Letter}
 use Rattle.uac_sentence.specs.declared.letters.Letter.TheVariants as letter
-use Rattle.uac_sentence.specs.declared.stages.Stage.{Stage}
-use Rattle.uac_sentence.specs.declared.stages.Stage.TheVariants.{Start, Due}
+use Rattle.uac_sentence.specs.declared.stages.OrderStage.{OrderStage}
+use Rattle.uac_sentence.specs.declared.stages.OrderStage.TheVariants.{Start, Due}
 use Rattle.uac_sentence.specs.declared.states.State.{State}
 use Rattle.uac_sentence.specs.declared.states.TheConstants.{FURTHEST}
 use Rattle.uac_descriptor.specs.Classes.{is_audio_association, is_control_interface, is_streaming_interface}
@@ -17,12 +17,12 @@ use Rattle.uac_sentence.specs.Steps.{next_stage}
 use Rattle.uac_sentence.specs.Grammar.{start, state_after, stage_after, end_after, ends_before}
 use Rattle.uac_sentence.specs.Sentence.{spellings, size}
 use Rattle.uac_sentence.specs.Progress.{state_following, BreakNone, HasRead}
-use Rattle.uac_sentence.proofs.Parts.{bytes_in, broken_passes}
+use Rattle.uac_sentence.proofs.GrammarLemmas.{bytes_in, broken_passes}
 use Rattle.uac_sentence.proofs.SentenceTotalLemmas.{size-cons}
 use Rattle.uac_sentence.proofs.SentenceLemmas.{bytes_left, bytes_right}
 
 -- before the configuration at most the device descriptor was read; after it the blocks stay within its total
-abbrev Reaches : Option ℕ → Stage → ℕ → Type 0
+abbrev Reaches : Option ℕ → OrderStage → ℕ → Type 0
 Reaches None s place = ((s ≡ Start) × (place ≡ 0)) ⊎ ((s ≡ Due) × (place ≡ 18))
 Reaches (Some end) s place = (place ≤ end) × (end ≤ FURTHEST)
 
@@ -95,7 +95,7 @@ due_step letter.Configuration allowed = refl
 due_step k allowed = absurd (true≢false allowed)
 
 -- before the configuration only the device descriptor is allowed
-other_reaches : (s : Stage) (place : ℕ) (b : block.Block) → end_after None 0 b ≡ None → is_none (next_stage s (letter_of b)) ≡ false
+other_reaches : (s : OrderStage) (place : ℕ) (b : block.Block) → end_after None 0 b ≡ None → is_none (next_stage s (letter_of b)) ≡ false
     → Reaches None s place → Reaches None (stage_after (next_stage s (letter_of b)) s) (place + bytes_in b)
 other_reaches s place b none allowed (inl (first, zero_place)) =
     let (device, next) = start_step (letter_of b) (subst (λ t. is_none (next_stage t (letter_of b)) ≡ false) first allowed) (not_configuration b none) in
@@ -113,7 +113,7 @@ small_total (variant.Configuration c) place are e is =
     omega arith
 small_total b place are e is = cc
 
-reach_more : (end : Option ℕ) (s : Stage) (place : ℕ) (b : block.Block) → ends_before (end_after end place b) (place + bytes_in b) ≡ false
+reach_more : (end : Option ℕ) (s : OrderStage) (place : ℕ) (b : block.Block) → ends_before (end_after end place b) (place + bytes_in b) ≡ false
     → is_none (next_stage s (letter_of b)) ≡ false → AreBytes (spelling b) → Reaches end s place
     → Reaches (end_after end place b) (stage_after (next_stage s (letter_of b)) s) (place + bytes_in b)
 reach_more (Some end) s place b fits allowed are (low, high) = (ltb-false end (place + bytes_in b) fits, high)
@@ -135,7 +135,7 @@ reach_following s place (b ∷ blocks) are (here, unbroken) h =
     (reach_following (state_after s place b) (place + bytes_in b) blocks (bytes_right (spelling b) (spellings blocks) are) unbroken
     (reach_more s.end s.stage place b p.end p.allowed (bytes_left (spelling b) (spellings blocks) are) h))
 
-reach_bound : (end : Option ℕ) (s : Stage) (place : ℕ) → Reaches end s place → place ≤ FURTHEST
+reach_bound : (end : Option ℕ) (s : OrderStage) (place : ℕ) → Reaches end s place → place ≤ FURTHEST
 reach_bound None s place (inl (first, at)) = omega arith
 reach_bound None s place (inr (due, at)) = omega arith
 reach_bound (Some end) s place (low, high) = omega arith

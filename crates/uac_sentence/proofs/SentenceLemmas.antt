@@ -9,10 +9,10 @@ use Rattle.uac_descriptor.specs.declared.block.Block as block
 use Rattle.uac_descriptor.specs.declared.block.Block.TheVariants as variant
 use Rattle.uac_descriptor.specs.Spelling.{spelling}
 use Rattle.uac_descriptor.specs.LayoutRows.{Spells}
-use Rattle.uac_descriptor.specs.BlockReading.{AreBytes, is_whole, block_of}
-use Rattle.uac_descriptor.proofs.ReadBack.{is_whole-spelling, block_of-Spells}
-use Rattle.uac_descriptor.proofs.SpeltAsRead.{Spells-block_of}
-use Rattle.uac_sentence.specs.declared.stages.Stage.TheVariants as stage
+use Rattle.uac_descriptor.specs.BlockParsing.{AreBytes, is_whole, block_of}
+use Rattle.uac_descriptor.proofs.SpellingLemmas.{is_whole-spelling, block_of-Spells}
+use Rattle.uac_descriptor.proofs.BlockParsingLemmas.{Spells-block_of}
+use Rattle.uac_sentence.specs.declared.stages.OrderStage.TheVariants as stage
 use Rattle.uac_sentence.specs.declared.states.State.{State}
 use Rattle.uac_sentence.specs.Cutting.{IsPiece, chop}
 use Rattle.uac_sentence.specs.Fault.{at_place, rest_rule, faults_over, faults_from}
@@ -23,7 +23,7 @@ use Rattle.uac_sentence.specs.Sentence.{EachIn, SpellsItself, spellings, IsSente
 use Rattle.uac_sentence.proofs.CuttingLemmas.{chop_is_cut}
 use Rattle.uac_sentence.proofs.FaultLemmas.{faults_from_piece, faults_from_rest}
 use Rattle.uac_sentence.proofs.StepsLemmas.{goes_allows, allows_goes}
-use Rattle.uac_sentence.proofs.Parts.{bytes_in, Clear, HasNoWrongValue, clear_parts, parts_clear}
+use Rattle.uac_sentence.proofs.GrammarLemmas.{bytes_in, Clear, HasNoWrongValue, clear_parts, parts_clear}
 use Rattle.uac_sentence.proofs.ValuesLemmas.{EachIn-weaker, right_values, no_wrong_value}
 use Rattle.uac_sentence.proofs.SentenceListLemmas.{listed_entities}
 use Rattle.uac_sentence.proofs.SentenceTotalLemmas.{whole_total, total_whole, list_total, total_list}
@@ -42,9 +42,9 @@ pub bytes_right : (xs ys : List ℕ) → AreBytes (xs ++ ys) → AreBytes ys
 bytes_right xs ys are i = subst (λ n. n < 256) (get_or-append-add xs ys i 0) (are (length xs + i))
 
 -- a block that may stand somewhere is spelt by a whole piece
-pub piece_of : (place : Context) (b : block.Block) → SpellsItself place b → IsPiece (spelling b)
+pub piece_of : (context : Context) (b : block.Block) → SpellsItself context b → IsPiece (spelling b)
 unfolding is_whole
-piece_of place b stands =
+piece_of context b stands =
     let (two, fits) = and_parts (leb 2 (length (spelling b))) (eqb (get_or (spelling b) 0 0) (length (spelling b))) (is_whole-spelling b stands.complete) in
     let e : get_or (spelling b) 0 0 ≡ length (spelling b) = eqb-true (get_or (spelling b) 0 0) (length (spelling b)) fits in
     let low : 2 ≤ length (spelling b) = leb-true 2 (length (spelling b)) two in
@@ -181,16 +181,16 @@ sentence_none bytes blocks are sentence =
     ∙ none_from start 0 blocks sentence.stand (clear_of bytes blocks (subst AreBytes sentence.spelt are) sentence)
 
 -- two lists of blocks with the same bytes are the same
-same_blocks : (place : Context) (one other : List block.Block) → EachIn SpellsItself place one → EachIn SpellsItself place other
+same_blocks : (context : Context) (one other : List block.Block) → EachIn SpellsItself context one → EachIn SpellsItself context other
     → spellings one ≡ spellings other → one ≡ other
-same_blocks place [] [] stand stand' e = refl
-same_blocks place [] (b ∷ other) stand (stands, stand') e =
-    absurd (let (two, fits) = piece_of place b stands in omega (arith, ap length e, length-append (spelling b) (spellings other)))
-same_blocks place (a ∷ one) [] (stands, stand) stand' e =
-    absurd (let (two, fits) = piece_of place a stands in omega (arith, ap length e, length-append (spelling a) (spellings one)))
-same_blocks place (a ∷ one) (b ∷ other) (stands, stand) (stands', stand') e =
-    let (two, fits) = piece_of place a stands in
-    let (two', fits') = piece_of place b stands' in
+same_blocks context [] [] stand stand' e = refl
+same_blocks context [] (b ∷ other) stand (stands, stand') e =
+    absurd (let (two, fits) = piece_of context b stands in omega (arith, ap length e, length-append (spelling b) (spellings other)))
+same_blocks context (a ∷ one) [] (stands, stand) stand' e =
+    absurd (let (two, fits) = piece_of context a stands in omega (arith, ap length e, length-append (spelling a) (spellings one)))
+same_blocks context (a ∷ one) (b ∷ other) (stands, stand) (stands', stand') e =
+    let (two, fits) = piece_of context a stands in
+    let (two', fits') = piece_of context b stands' in
     let first_a : get_or (spelling a ++ spellings one) 0 0 ≡ get_or (spelling a) 0 0 = get_or_append_left (spelling a) (spellings one) 0 0 (omega arith) in
     let first_b : get_or (spelling b ++ spellings other) 0 0 ≡ get_or (spelling b) 0 0 = get_or_append_left (spelling b) (spellings other) 0 0 (omega arith) in
     let n : length (spelling a) ≡ length (spelling b) = fits ∙ sym first_a ∙ ap (λ y. get_or y 0 0) e ∙ first_b ∙ sym fits' in
@@ -198,9 +198,9 @@ same_blocks place (a ∷ one) (b ∷ other) (stands, stand) (stands', stand') e 
     sym (take_at (spelling a) (spellings one) (length (spelling b)) n) ∙ ap (take (length (spelling b))) e ∙ take_at (spelling b) (spellings other) (length (spelling b)) refl in
     let back : spellings one ≡ spellings other =
     sym (drop_at (spelling a) (spellings one) (length (spelling b)) n) ∙ ap (drop (length (spelling b))) e ∙ drop_at (spelling b) (spellings other) (length (spelling b)) refl in
-    let same : a ≡ b = some_is a b (sym (block_of-Spells place a (spelling a) stands) ∙ ap (block_of place) front ∙ block_of-Spells place b (spelling b) stands') in
+    let same : a ≡ b = some_is a b (sym (block_of-Spells context a (spelling a) stands) ∙ ap (block_of context) front ∙ block_of-Spells context b (spelling b) stands') in
     ap (λ x. x ∷ one) same
-    ∙ ap (λ xs. b ∷ xs) (same_blocks (context_after place b) one other (subst (λ x. EachIn SpellsItself (context_after place x) one) same stand) stand' back)
+    ∙ ap (λ xs. b ∷ xs) (same_blocks (context_after context b) one other (subst (λ x. EachIn SpellsItself (context_after context x) one) same stand) stand' back)
   where
     some_is : (a b : block.Block) → Some a ≡ Some b → a ≡ b
     some_is a b e = cc

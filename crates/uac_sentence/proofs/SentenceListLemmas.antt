@@ -3,7 +3,7 @@ use Rattle.std.proofs.Common.{◌≡◌, ◌≢◌, ◌⊎◌, ◌↔◌, ◌+�
 use Rattle.std.specs.List.{prefix_len}
 use Rattle.std.proofs.lemmas.Bool.{true≢false, false≢true, cond-true, cond-false, and_parts, or_cases, not-true}
 use Rattle.uac_descriptor.specs.declared.context.Context.{Context}
-use Rattle.uac_descriptor.specs.declared.context.Context.TheVariants as context
+use Rattle.uac_descriptor.specs.declared.context.Context.TheVariants as contexts
 use Rattle.uac_descriptor.specs.declared.block.Block as block
 use Rattle.uac_descriptor.specs.declared.block.Block.TheVariants as variant
 use Rattle.uac_descriptor.specs.declared.control.Header as header
@@ -11,8 +11,8 @@ use Rattle.uac_descriptor.specs.LayoutRows.{row_in, row_of, row}
 use Rattle.uac_descriptor.specs.Spelling.{spelling}
 use Rattle.uac_sentence.specs.declared.letters.Letter.{Letter}
 use Rattle.uac_sentence.specs.declared.letters.Letter.TheVariants as letter
-use Rattle.uac_sentence.specs.declared.stages.Stage.{Stage}
-use Rattle.uac_sentence.specs.declared.stages.Stage.TheVariants.{Start, Due, Opening, Before, Announced, Headless, Listing, Quiet, Setting, Formats, Formatted, FirstEndpoint, FirstDone, SecondEndpoint, Closing, ForeignAfter}
+use Rattle.uac_sentence.specs.declared.stages.OrderStage.{OrderStage}
+use Rattle.uac_sentence.specs.declared.stages.OrderStage.TheVariants.{Start, Due, Opening, Before, Announced, Headless, Listing, Quiet, Setting, Formats, Formatted, FirstEndpoint, FirstDone, SecondEndpoint, Closing, ForeignAfter}
 use Rattle.uac_descriptor.specs.Classes.{is_audio_association, is_control_interface, is_streaming_interface}
 use Rattle.uac_sentence.specs.Letter.{letter_of, whole_letter, interface_letter, interface_context, context_after, is_device, has_unknown_subtype, is_ordered_type, type_of, is_listed}
 use Rattle.uac_sentence.specs.Steps.{next_stage}
@@ -27,22 +27,22 @@ ListedTotal (_ ∷ blocks) = ListedTotal blocks
 
 -- ---- foreign parts
 
-abbrev in_part : Stage → Bool
+abbrev in_part : OrderStage → Bool
 in_part Before = true
 in_part ForeignAfter = true
 in_part _ = false
 
-abbrev leads_in_part : Option Stage → Bool
+abbrev leads_in_part : Option OrderStage → Bool
 leads_in_part None = false
 leads_in_part (Some s) = in_part s
 
 -- what a letter makes the context
 abbrev letter_context : Context → Letter → Context
-letter_context place letter.ForeignAssociation = context.ForeignInterface
-letter_context place letter.ForeignInterface = context.ForeignInterface
-letter_context place letter.ControlInterface = context.ControlInterface
-letter_context place letter.StreamingInterface = context.StreamingInterface
-letter_context place _ = place
+letter_context context letter.ForeignAssociation = contexts.ForeignInterface
+letter_context context letter.ForeignInterface = contexts.ForeignInterface
+letter_context context letter.ControlInterface = contexts.ControlInterface
+letter_context context letter.StreamingInterface = contexts.StreamingInterface
+letter_context context _ = context
 
 abbrev begins_part : Letter → Bool
 begins_part letter.ForeignAssociation = true
@@ -55,7 +55,7 @@ keeps_context letter.StreamingInterface = false
 keeps_context _ = true
 
 -- a foreign part is begun, or goes on
-part_table : (s : Stage) (k : Letter) → (not (leads_in_part (next_stage s k)) || (begins_part k || in_part s && keeps_context k)) ≡ true
+part_table : (s : OrderStage) (k : Letter) → (not (leads_in_part (next_stage s k)) || (begins_part k || in_part s && keeps_context k)) ≡ true
 part_table Start letter.Device = refl
 part_table Start k = refl
 part_table Due letter.Device = refl
@@ -89,56 +89,56 @@ part_table Closing k = refl
 part_table ForeignAfter letter.Device = refl
 part_table ForeignAfter k = refl
 
-begins_context : (place : Context) (k : Letter) → begins_part k ≡ true → letter_context place k ≡ context.ForeignInterface
-begins_context place letter.ForeignAssociation e = refl
-begins_context place letter.ForeignInterface e = refl
-begins_context place k e = absurd (false≢true e)
+begins_context : (context : Context) (k : Letter) → begins_part k ≡ true → letter_context context k ≡ contexts.ForeignInterface
+begins_context context letter.ForeignAssociation e = refl
+begins_context context letter.ForeignInterface e = refl
+begins_context context k e = absurd (false≢true e)
 
-kept_context : (k : Letter) → keeps_context k ≡ true → letter_context context.ForeignInterface k ≡ context.ForeignInterface
+kept_context : (k : Letter) → keeps_context k ≡ true → letter_context contexts.ForeignInterface k ≡ contexts.ForeignInterface
 kept_context letter.ControlInterface e = absurd (false≢true e)
 kept_context letter.StreamingInterface e = absurd (false≢true e)
 kept_context k e = refl
 
 -- the letter of a block that is kept whole leaves the context
-whole_context : (place : Context) (d u p : Bool)
-    → letter_context place (cond d letter.Device (cond u letter.UnknownSubtype (cond p letter.Stray letter.Other))) ≡ place
-whole_context place true u p = refl
-whole_context place false true p = refl
-whole_context place false false true = refl
-whole_context place false false false = refl
+whole_context : (context : Context) (d u p : Bool)
+    → letter_context context (cond d letter.Device (cond u letter.UnknownSubtype (cond p letter.Stray letter.Other))) ≡ context
+whole_context context true u p = refl
+whole_context context false true p = refl
+whole_context context false false true = refl
+whole_context context false false false = refl
 
-interface_contexts : (place : Context) (c s : Bool)
-    → cond c context.ControlInterface (cond s context.StreamingInterface context.ForeignInterface)
-    ≡ letter_context place (cond c letter.ControlInterface (cond s letter.StreamingInterface letter.ForeignInterface))
-interface_contexts place true s = refl
-interface_contexts place false true = refl
-interface_contexts place false false = refl
+interface_contexts : (context : Context) (c s : Bool)
+    → cond c contexts.ControlInterface (cond s contexts.StreamingInterface contexts.ForeignInterface)
+    ≡ letter_context context (cond c letter.ControlInterface (cond s letter.StreamingInterface letter.ForeignInterface))
+interface_contexts context true s = refl
+interface_contexts context false true = refl
+interface_contexts context false false = refl
 
-association_context : (place : Context) (a : Bool)
-    → cond a place context.ForeignInterface ≡ letter_context place (cond a letter.AudioAssociation letter.ForeignAssociation)
-association_context place true = refl
-association_context place false = refl
+association_context : (context : Context) (a : Bool)
+    → cond a context contexts.ForeignInterface ≡ letter_context context (cond a letter.AudioAssociation letter.ForeignAssociation)
+association_context context true = refl
+association_context context false = refl
 
-context_of_letter : (place : Context) (b : block.Block) → context_after place b ≡ letter_context place (letter_of b)
+context_of_letter : (context : Context) (b : block.Block) → context_after context b ≡ letter_context context (letter_of b)
 unfolding whole_letter interface_letter interface_context
-context_of_letter place (variant.Interface i) = interface_contexts place (is_control_interface i) (is_streaming_interface i)
-context_of_letter place (variant.Association a) = association_context place (is_audio_association a)
-context_of_letter place (variant.Foreign bytes) =
-    sym (whole_context place (is_device bytes) (has_unknown_subtype bytes) (is_ordered_type (type_of bytes)))
-context_of_letter place b = refl
+context_of_letter context (variant.Interface i) = interface_contexts context (is_control_interface i) (is_streaming_interface i)
+context_of_letter context (variant.Association a) = association_context context (is_audio_association a)
+context_of_letter context (variant.Foreign bytes) =
+    sym (whole_context context (is_device bytes) (has_unknown_subtype bytes) (is_ordered_type (type_of bytes)))
+context_of_letter context b = refl
 
 -- in a foreign part the context is that of a foreign interface
-IsFitting : Stage → Context → Type 0
-IsFitting s place = in_part s ≡ true → place ≡ context.ForeignInterface
+IsFitting : OrderStage → Context → Type 0
+IsFitting s context = in_part s ≡ true → context ≡ contexts.ForeignInterface
 
-fits_on : (s t : Stage) (place : Context) (b : block.Block) → next_stage s (letter_of b) ≡ Some t → IsFitting s place → IsFitting t (context_after place b)
+fits_on : (s t : OrderStage) (context : Context) (b : block.Block) → next_stage s (letter_of b) ≡ Some t → IsFitting s context → IsFitting t (context_after context b)
 unfolding IsFitting
-fits_on s t place b e fits inside =
-    context_of_letter place b
+fits_on s t context b e fits inside =
+    context_of_letter context b
     ∙ elim (or_cases (not (leads_in_part (next_stage s k))) (begins_part k || in_part s && keeps_context k) (part_table s k)) [
       | inl out ↦ absurd (true≢false (sym (ap leads_in_part e ∙ inside) ∙ not-true (leads_in_part (next_stage s k)) out))
       | inr goes ↦ elim (or_cases (begins_part k) (in_part s && keeps_context k) goes) [
-        | inl begins ↦ begins_context place k begins
+        | inl begins ↦ begins_context context k begins
         | inr stays ↦ (let (part, kept) = and_parts (in_part s) (keeps_context k) stays in
             ap (λ c. letter_context c k) (fits part) ∙ kept_context k kept)
       ]
@@ -157,7 +157,7 @@ front_off : (p : block.Block → Bool) (b : block.Block) (blocks : List block.Bl
 front_off p b blocks h = ap (λ n. take n (b ∷ blocks)) (cond-false (p b) (1 + prefix_len p blocks) 0 h)
 
 -- in the list an entity stays there, and nothing else is listed
-list_step : (k : Letter) (t : Stage) → next_stage Listing k ≡ Some t → ((is_entity k ≡ true) × (is_listed k ≡ true) × (t ≡ Listing)) ⊎ ((is_entity k ≡ false) × (is_listed k ≡ false))
+list_step : (k : Letter) (t : OrderStage) → next_stage Listing k ≡ Some t → ((is_entity k ≡ true) × (is_listed k ≡ true) × (t ≡ Listing)) ⊎ ((is_entity k ≡ false) × (is_listed k ≡ false))
 list_step letter.Entity t e = inl (refl, refl, (let h : t ≡ Listing = cc in h))
 list_step letter.UnknownSubtype t e = cc
 list_step k t e = inr (refl, refl)
@@ -176,39 +176,39 @@ list_front (b ∷ blocks) (t, e, goes) =
     ]
 
 -- where a header may come
-header_step : (s t : Stage) → next_stage s letter.Header ≡ Some t → (t ≡ Listing) ⊎ (in_part s ≡ true)
+header_step : (s t : OrderStage) → next_stage s letter.Header ≡ Some t → (t ≡ Listing) ⊎ (in_part s ≡ true)
 header_step Headless t e = inl (let h : t ≡ Listing = cc in h)
 header_step Before t e = inr refl
 header_step ForeignAfter t e = inr refl
 header_step s t e = cc
 
 -- the two totals are one, in an allowed order
-same_front : (s : Stage) (place : Context) (b : block.Block) (blocks : List block.Block) → letter_of b ≡ letter.Header
-    → row_in context.ForeignInterface (spelling b) ≢ row b → SpellsItself place b → IsFitting s place → Goes letter_of s (b ∷ blocks)
+same_front : (s : OrderStage) (context : Context) (b : block.Block) (blocks : List block.Block) → letter_of b ≡ letter.Header
+    → row_in contexts.ForeignInterface (spelling b) ≢ row b → SpellsItself context b → IsFitting s context → Goes letter_of s (b ∷ blocks)
     → take_while (λ x. is_listed (letter_of x)) blocks ≡ take_while (λ x. is_entity (letter_of x)) blocks
 unfolding IsFitting
-same_front s place b blocks is other stands fits (t, e, goes) =
+same_front s context b blocks is other stands fits (t, e, goes) =
     elim (header_step s t (sym (ap (next_stage s) is) ∙ e)) [
       | inl at ↦ list_front blocks (subst (λ r. Goes letter_of r blocks) at goes)
       | inr part ↦ absurd (other (subst (λ c. row_in c (spelling b) ≡ row b) (fits part) stands.stands))
     ]
 
-foreign_header : (h : header.Header) → row_in context.ForeignInterface (spelling (variant.Header h)) ≢ row (variant.Header h)
+foreign_header : (h : header.Header) → row_in contexts.ForeignInterface (spelling (variant.Header h)) ≢ row (variant.Header h)
 unfolding row_in row_of spelling
 foreign_header h = λ e. cc
 
-entities_only : (s : Stage) (place : Context) (blocks : List block.Block) → EachIn SpellsItself place blocks → IsFitting s place → Goes letter_of s blocks
+entities_only : (s : OrderStage) (context : Context) (blocks : List block.Block) → EachIn SpellsItself context blocks → IsFitting s context → Goes letter_of s blocks
     → ListedTotal blocks ↔ HasListTotal blocks
-entities_only s place [] stand fits goes = (λ h. h, λ h. h)
-entities_only s place (variant.Header h ∷ blocks) (stands, stand) fits goes =
+entities_only s context [] stand fits goes = (λ h. h, λ h. h)
+entities_only s context (variant.Header h ∷ blocks) (stands, stand) fits goes =
     let b : block.Block = variant.Header h in
-    let e = same_front s place b blocks refl (foreign_header h) stands fits goes in
+    let e = same_front s context b blocks refl (foreign_header h) stands fits goes in
     (subst (λ xs. size (b ∷ xs) ≡ h.total) e, subst (λ xs. size (b ∷ xs) ≡ h.total) (sym e))
-entities_only s place (b ∷ blocks) (stands, stand) fits (t, e, goes) =
-    entities_only t (context_after place b) blocks stand (fits_on s t place b e fits) goes
+entities_only s context (b ∷ blocks) (stands, stand) fits (t, e, goes) =
+    entities_only t (context_after context b) blocks stand (fits_on s t context b e fits) goes
 
 -- from the start
-pub listed_entities : (blocks : List block.Block) → EachIn SpellsItself context.DeviceFront blocks → Goes letter_of Start blocks
+pub listed_entities : (blocks : List block.Block) → EachIn SpellsItself contexts.DeviceFront blocks → Goes letter_of Start blocks
     → ListedTotal blocks ↔ HasListTotal blocks
 unfolding IsFitting
-listed_entities blocks stand goes = entities_only Start context.DeviceFront blocks stand (λ e. absurd (false≢true e)) goes
+listed_entities blocks stand goes = entities_only Start contexts.DeviceFront blocks stand (λ e. absurd (false≢true e)) goes

@@ -10,7 +10,7 @@ use Rattle.uac_sentence.specs.Letter.{letter_of, is_listed}
 use Rattle.uac_sentence.specs.Grammar.{ends_before, list_end}
 use Rattle.uac_sentence.specs.Sentence.{spellings, size, HasWholeTotal}
 use Rattle.uac_sentence.proofs.SentenceListLemmas.{ListedTotal}
-use Rattle.uac_sentence.proofs.Parts.{bytes_in, EndRun, ListRun}
+use Rattle.uac_sentence.proofs.GrammarLemmas.{bytes_in, EndRun, ListRun}
 
 -- the bytes of one block more
 pub size-cons : (b : block.Block) (blocks : List block.Block) → size (b ∷ blocks) ≡ bytes_in b + size blocks

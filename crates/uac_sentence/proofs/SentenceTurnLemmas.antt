@@ -11,7 +11,7 @@ use Rattle.uac_descriptor.specs.Classes.{is_streaming_interface}
 use Rattle.uac_sentence.specs.Grammar.{used_after, latest_after, continues, is_in_turn}
 pub use Rattle.uac_sentence.specs.Sentence.{HasSmallNumbers}
 use Rattle.uac_sentence.specs.Sentence.{is_of_function, Begins, Continues, InTurn, interface_of}
-use Rattle.uac_sentence.proofs.Parts.{TurnRun}
+use Rattle.uac_sentence.proofs.GrammarLemmas.{TurnRun}
 
 -- an interface of the function among these has the number
 abbrev uses : ℕ → List interface.Interface → Bool

@@ -5,8 +5,8 @@ use Rattle.uac_sentence.specs.BlockOrder.{a, stays_in_part, others, foreign, con
 use Rattle.uac_sentence.specs.Steps.{next_stage, may_end}
 use Rattle.uac_sentence.specs.declared.letters.Letter.{Letter}
 use Rattle.uac_sentence.specs.declared.letters.Letter.TheVariants.{Device, Configuration, AudioAssociation, Endpoint, Header, Entity, General, TypeOne, Extra, ClassEndpoint}
-use Rattle.uac_sentence.specs.declared.stages.Stage.{Stage}
-use Rattle.uac_sentence.specs.declared.stages.Stage.TheVariants.{Start, Due, Opening, Before, Announced, Headless, Listing, Quiet, Setting, Formats, Formatted, FirstEndpoint, FirstDone, SecondEndpoint, Closing, ForeignAfter}
+use Rattle.uac_sentence.specs.declared.stages.OrderStage.{OrderStage}
+use Rattle.uac_sentence.specs.declared.stages.OrderStage.TheVariants.{Start, Due, Opening, Before, Announced, Headless, Listing, Quiet, Setting, Formats, Formatted, FirstEndpoint, FirstDone, SecondEndpoint, Closing, ForeignAfter}
 use Rattle.uac_sentence.proofs.ProductionLemmas.{following, nullable, after_allows, allows_following, allows_empty, nullable_from}
 
 -- the other parts, after the control interface's
@@ -21,7 +21,7 @@ abbrev audio : Production Letter
 audio = then' (a AudioAssociation) (then' control parts)
 
 -- what may still come at each stage
-abbrev pub left : Stage → Production Letter
+abbrev pub left : OrderStage → Production Letter
 left Start = input
 left Due = then' (a Configuration) (then' others (then' (many foreign) audio))
 left Opening = then' others (then' (many foreign) audio)
@@ -39,12 +39,12 @@ left SecondEndpoint = then' (option (a ClassEndpoint)) (then' others parts)
 left Closing = then' others parts
 left ForeignAfter = then' (many (one stays_in_part)) parts
 
-abbrev pub left_at : Option Stage → Production Letter
+abbrev pub left_at : Option OrderStage → Production Letter
 left_at None = nothing
 left_at (Some s) = left s
 
 -- the table says what the productions leave after each letter
-pub left_following : (s : Stage) (k : Letter) → following k (left s) ≡ left_at (next_stage s k)
+pub left_following : (s : OrderStage) (k : Letter) → following k (left s) ≡ left_at (next_stage s k)
 left_following Start Device = refl
 left_following Start k = refl
 left_following Due Device = refl
@@ -79,26 +79,26 @@ left_following ForeignAfter Device = refl
 left_following ForeignAfter k = refl
 
 -- the input may end where the productions may
-pub may_end_lem : (s : Stage) → nullable (left s) ≡ may_end s
+pub may_end_lem : (s : OrderStage) → nullable (left s) ≡ may_end s
 may_end_lem Start = refl
 may_end_lem s = refl
 
 -- items lead from a stage to one in which the input may end
-abbrev pub Goes : {A : Type 0} → (A → Letter) → Stage → List A → Type 0
+abbrev pub Goes : {A : Type 0} → (A → Letter) → OrderStage → List A → Type 0
 Goes f s [] = IsTrue (may_end s)
-Goes f s (x ∷ xs) = (t : Stage) × (next_stage s (f x) ≡ Some t) × Goes f t xs
+Goes f s (x ∷ xs) = (t : OrderStage) × (next_stage s (f x) ≡ Some t) × Goes f t xs
 
-pub goes_allows : {A : Type 0} (f : A → Letter) (s : Stage) (xs : List A) → Goes f s xs → Allows f (left s) xs
+pub goes_allows : {A : Type 0} (f : A → Letter) (s : OrderStage) (xs : List A) → Goes f s xs → Allows f (left s) xs
 goes_allows f s [] h = allows_empty f (left s) (may_end_lem s ∙ h)
 goes_allows f s (x ∷ xs) (t, e, h) =
     allows_following f (left s) x xs (subst (λ r. Allows f r xs) (sym (left_following s (f x) ∙ ap left_at e)) (goes_allows f t xs h))
 
 -- where the productions leave something, the table leads on
-leads_on : {A : Type 0} (f : A → Letter) (o : Option Stage) (xs : List A) → Allows f (left_at o) xs → (t : Stage) × (o ≡ Some t) × Allows f (left t) xs
+leads_on : {A : Type 0} (f : A → Letter) (o : Option OrderStage) (xs : List A) → Allows f (left_at o) xs → (t : OrderStage) × (o ≡ Some t) × Allows f (left t) xs
 leads_on f None xs h = absurd h
 leads_on f (Some t) xs h = (t, refl, h)
 
-pub allows_goes : {A : Type 0} (f : A → Letter) (s : Stage) (xs : List A) → Allows f (left s) xs → Goes f s xs
+pub allows_goes : {A : Type 0} (f : A → Letter) (s : OrderStage) (xs : List A) → Allows f (left s) xs → Goes f s xs
 allows_goes f s [] h = sym (may_end_lem s) ∙ nullable_from f (left s) h
 allows_goes f s (x ∷ xs) h =
     let (t, e, p) = leads_on f (next_stage s (f x)) xs (subst (λ r. Allows f r xs) (left_following s (f x)) (after_allows f (left s) x xs h)) in

@@ -14,10 +14,10 @@ use Rattle.uac_sentence.specs.Values.{control_bits, IsAllowed, is_barred, is_aud
 use Rattle.uac_sentence.specs.Sentence.{EachIn}
 
 -- a fact that follows in each context follows along the blocks
-pub EachIn-weaker : (P Q : Context → block.Block → Type 0) → ((place : Context) (b : block.Block) → P place b → Q place b)
-    → (place : Context) (blocks : List block.Block) → EachIn P place blocks → EachIn Q place blocks
-EachIn-weaker P Q weaker place [] h = tt
-EachIn-weaker P Q weaker place (b ∷ blocks) (h, rest) = (weaker place b h, EachIn-weaker P Q weaker (context_after place b) blocks rest)
+pub EachIn-weaker : (P Q : Context → block.Block → Type 0) → ((context : Context) (b : block.Block) → P context b → Q context b)
+    → (context : Context) (blocks : List block.Block) → EachIn P context blocks → EachIn Q context blocks
+EachIn-weaker P Q weaker context [] h = tt
+EachIn-weaker P Q weaker context (b ∷ blocks) (h, rest) = (weaker context b h, EachIn-weaker P Q weaker (context_after context b) blocks rest)
 
 none_passes : {X : Type 0} (p : X → Bool) (P : X → Type 0) → ((x : X) → p x ≡ false → P x) → (xs : List X) → list_any p xs ≡ false → AllByRecursion P xs
 none_passes p P each [] e = tt
@@ -84,50 +84,50 @@ no_format t h =
     (le-ltb t.bits 1 h.fits.0))
     (le-ltb (8 * t.subslot) t.bits h.fits.1)
 
-pub right_values : (place : Context) (b : block.Block) → has_wrong_value place b ≡ false → HasValues place b
+pub right_values : (context : Context) (b : block.Block) → has_wrong_value context b ≡ false → HasValues context b
 unfolding has_wrong_value
-right_values place (variant.Endpoint e) h =
+right_values context (variant.Endpoint e) h =
     λ audio isochronous. high_speed e
-    (elim (and_cases (is_audio place && is_isochronous e) (is_no_high_speed e) h) [
-      | inl wrong ↦ absurd (true≢false (sym (and_from (is_audio place) (is_isochronous e) audio isochronous) ∙ wrong))
+    (elim (and_cases (is_audio context && is_isochronous e) (is_no_high_speed e) h) [
+      | inl wrong ↦ absurd (true≢false (sym (and_from (is_audio context) (is_isochronous e) audio isochronous) ∙ wrong))
       | inr right ↦ right
     ])
-right_values place (variant.Header h) e = eqb-true h.version VERSION_02_00 (not-false (eqb h.version VERSION_02_00) e)
-right_values place (variant.InputTerminal t) e = eqb-false (control_bits 1 t.controls) 2 e
-right_values place (variant.OutputTerminal t) e = eqb-false (control_bits 1 t.controls) 2 e
-right_values place (variant.Mixer m) e = eqb-false (length m.sources) 0 e
-right_values place (variant.Selector s) e = pins_and_control (length s.sources) s.controls e
-right_values place (variant.Feature f) e =
+right_values context (variant.Header h) e = eqb-true h.version VERSION_02_00 (not-false (eqb h.version VERSION_02_00) e)
+right_values context (variant.InputTerminal t) e = eqb-false (control_bits 1 t.controls) 2 e
+right_values context (variant.OutputTerminal t) e = eqb-false (control_bits 1 t.controls) 2 e
+right_values context (variant.Mixer m) e = eqb-false (length m.sources) 0 e
+right_values context (variant.Selector s) e = pins_and_control (length s.sources) s.controls e
+right_values context (variant.Feature f) e =
     none_passes (λ word. is_barred 0 word || is_barred 1 word) (λ word. IsAllowed 0 word × IsAllowed 1 word) (both_allowed 0 1) f.words e
-right_values place (variant.Effect f) e = none_passes (is_barred 0) (IsAllowed 0) (λ word. eqb-false (control_bits 0 word) 2) f.words e
-right_values place (variant.ClockSource c) e = both_allowed 0 1 c.controls e
-right_values place (variant.ClockSelector c) e = pins_and_control (length c.sources) c.controls e
-right_values place (variant.ClockMultiplier c) e = both_allowed 0 1 c.controls e
-right_values place (variant.General g) e = both_allowed 0 1 g.controls e
-right_values place (variant.TypeOne t) e = format_of t e
-right_values place _ e = tt
+right_values context (variant.Effect f) e = none_passes (is_barred 0) (IsAllowed 0) (λ word. eqb-false (control_bits 0 word) 2) f.words e
+right_values context (variant.ClockSource c) e = both_allowed 0 1 c.controls e
+right_values context (variant.ClockSelector c) e = pins_and_control (length c.sources) c.controls e
+right_values context (variant.ClockMultiplier c) e = both_allowed 0 1 c.controls e
+right_values context (variant.General g) e = both_allowed 0 1 g.controls e
+right_values context (variant.TypeOne t) e = format_of t e
+right_values context _ e = tt
 
-pub no_wrong_value : (place : Context) (b : block.Block) → HasValues place b → has_wrong_value place b ≡ false
+pub no_wrong_value : (context : Context) (b : block.Block) → HasValues context b → has_wrong_value context b ≡ false
 unfolding has_wrong_value
-no_wrong_value place (variant.Endpoint e) h =
-    elim (cases_Bool (is_audio place)) [
-      | inr wrong ↦ and_left (is_audio place && is_isochronous e) (is_no_high_speed e) (and_left (is_audio place) (is_isochronous e) wrong)
+no_wrong_value context (variant.Endpoint e) h =
+    elim (cases_Bool (is_audio context)) [
+      | inr wrong ↦ and_left (is_audio context && is_isochronous e) (is_no_high_speed e) (and_left (is_audio context) (is_isochronous e) wrong)
       | inl audio ↦ elim (cases_Bool (is_isochronous e)) [
-        | inr wrong ↦ and_left (is_audio place && is_isochronous e) (is_no_high_speed e) (and_right (is_audio place) (is_isochronous e) wrong)
-        | inl isochronous ↦ and_right (is_audio place && is_isochronous e) (is_no_high_speed e) (no_high_speed e (h audio isochronous))
+        | inr wrong ↦ and_left (is_audio context && is_isochronous e) (is_no_high_speed e) (and_right (is_audio context) (is_isochronous e) wrong)
+        | inl isochronous ↦ and_right (is_audio context && is_isochronous e) (is_no_high_speed e) (no_high_speed e (h audio isochronous))
       ]
     ]
-no_wrong_value place (variant.Header h) e = not_from_true (eqb h.version VERSION_02_00) (eq-eqb h.version VERSION_02_00 e)
-no_wrong_value place (variant.InputTerminal t) e = ne_eqb (control_bits 1 t.controls) 2 e
-no_wrong_value place (variant.OutputTerminal t) e = ne_eqb (control_bits 1 t.controls) 2 e
-no_wrong_value place (variant.Mixer m) e = ne_eqb (length m.sources) 0 e
-no_wrong_value place (variant.Selector s) e = control_and_pins (length s.sources) s.controls e
-no_wrong_value place (variant.Feature f) e =
+no_wrong_value context (variant.Header h) e = not_from_true (eqb h.version VERSION_02_00) (eq-eqb h.version VERSION_02_00 e)
+no_wrong_value context (variant.InputTerminal t) e = ne_eqb (control_bits 1 t.controls) 2 e
+no_wrong_value context (variant.OutputTerminal t) e = ne_eqb (control_bits 1 t.controls) 2 e
+no_wrong_value context (variant.Mixer m) e = ne_eqb (length m.sources) 0 e
+no_wrong_value context (variant.Selector s) e = control_and_pins (length s.sources) s.controls e
+no_wrong_value context (variant.Feature f) e =
     all_none (λ word. is_barred 0 word || is_barred 1 word) (λ word. IsAllowed 0 word × IsAllowed 1 word) (none_barred 0 1) f.words e
-no_wrong_value place (variant.Effect f) e = all_none (is_barred 0) (IsAllowed 0) (λ word. ne_eqb (control_bits 0 word) 2) f.words e
-no_wrong_value place (variant.ClockSource c) e = none_barred 0 1 c.controls e
-no_wrong_value place (variant.ClockSelector c) e = control_and_pins (length c.sources) c.controls e
-no_wrong_value place (variant.ClockMultiplier c) e = none_barred 0 1 c.controls e
-no_wrong_value place (variant.General g) e = none_barred 0 1 g.controls e
-no_wrong_value place (variant.TypeOne t) e = no_format t e
-no_wrong_value place _ e = refl
+no_wrong_value context (variant.Effect f) e = all_none (is_barred 0) (IsAllowed 0) (λ word. ne_eqb (control_bits 0 word) 2) f.words e
+no_wrong_value context (variant.ClockSource c) e = none_barred 0 1 c.controls e
+no_wrong_value context (variant.ClockSelector c) e = control_and_pins (length c.sources) c.controls e
+no_wrong_value context (variant.ClockMultiplier c) e = none_barred 0 1 c.controls e
+no_wrong_value context (variant.General g) e = none_barred 0 1 g.controls e
+no_wrong_value context (variant.TypeOne t) e = no_format t e
+no_wrong_value context _ e = refl

@@ -22,8 +22,8 @@ use Rattle.uac_sentence.specs.Earlier.{has, latest_is, is_named, is_second, is_u
 
 -- the context after blocks, the first of which stands in this one
 abbrev pub context_following : Context → List block.Block → Context
-context_following place [] = place
-context_following place (b ∷ blocks) = context_following (context_after place b) blocks
+context_following context [] = context
+context_following context (b ∷ blocks) = context_following (context_after context b) blocks
 
 -- the context of what follows the first blocks of a descriptor
 abbrev pub context_of : List block.Block → Context

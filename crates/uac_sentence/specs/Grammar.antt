@@ -4,13 +4,13 @@ use Rattle.std.specs.Prelude.{slice_index_or, slice_set, Option, Some, None, is_
 use Rattle.std.specs.Option.{option_map, option_map_or}
 use Rattle.uac_descriptor.specs.declared.context.Context.TheVariants as context
 use Rattle.uac_descriptor.specs.Kinds.{as_configuration, as_header}
-use Rattle.uac_descriptor.specs.BlockReading.{block_of}
+use Rattle.uac_descriptor.specs.BlockParsing.{block_of}
 use Rattle.uac_descriptor.specs.declared.standard.Interface as interface
 use Rattle.uac_descriptor.specs.declared.block.Block as block
 use Rattle.uac_sentence.specs.declared.letters.Letter.{Letter}
 use Rattle.uac_sentence.specs.declared.letters.Letter.TheVariants as letter
-use Rattle.uac_sentence.specs.declared.stages.Stage.{Stage}
-use Rattle.uac_sentence.specs.declared.stages.Stage.TheVariants as stage
+use Rattle.uac_sentence.specs.declared.stages.OrderStage.{OrderStage}
+use Rattle.uac_sentence.specs.declared.stages.OrderStage.TheVariants as stage
 use Rattle.uac_sentence.specs.declared.states.Latest.{Latest}
 use Rattle.uac_sentence.specs.declared.states.Listing.{Listing}
 use Rattle.uac_sentence.specs.declared.states.Listing.TheVariants as listing
@@ -77,7 +77,7 @@ is_in_turn used latest b =
 
 -- ---- the rules
 
-abbrev pub stage_after : Option Stage → Stage → Stage
+abbrev pub stage_after : Option OrderStage → OrderStage → OrderStage
 stage_after None stage = stage
 stage_after (Some next) stage = next
 
@@ -116,11 +116,11 @@ passes_list list place size b = ends_before (list_end (listing_after list place 
 unfoldable pub ends_list_early : Listing → ℕ → Letter → Bool
 ends_list_early list place k = not (is_listed k) && ends_after (list_end list) place
 
-abbrev pub is_announced : Stage → Bool
+abbrev pub is_announced : OrderStage → Bool
 is_announced stage.Announced = true
 is_announced _ = false
 
-abbrev pub is_listing : Stage → Bool
+abbrev pub is_listing : OrderStage → Bool
 is_listing stage.Listing = true
 is_listing _ = false
 
@@ -156,19 +156,19 @@ is_association letter.AudioAssociation = true
 is_association _ = false
 
 -- the control interface was read
-abbrev pub is_past_control : Stage → Bool
+abbrev pub is_past_control : OrderStage → Bool
 is_past_control s = not (is_before_association s) && not (is_announced s)
 
 -- G7: a control or streaming interface before the audio association, or another block than a control interface after it
-unfoldable pub lacks_association : Stage → Letter → Bool
+unfoldable pub lacks_association : OrderStage → Letter → Bool
 lacks_association s k = is_before_association s && is_audio_interface k || is_announced s && not (is_control k)
 
 -- G8: in the list of entities, a class block of an unknown subtype
-unfoldable pub lists_unknown : Stage → Letter → Bool
+unfoldable pub lists_unknown : OrderStage → Letter → Bool
 lists_unknown s k = is_listing s && is_unknown k
 
 -- G9: a second audio association or a second control interface
-unfoldable pub comes_again : Stage → Letter → Bool
+unfoldable pub comes_again : OrderStage → Letter → Bool
 comes_again s k = not (is_before_association s) && is_association k || is_past_control s && is_control k
 
 -- the sentence does not allow the block here
@@ -198,12 +198,12 @@ rule_broken s place size b =
     ∷ (9, comes_again s.stage (letter_of b)) ∷ [])
 
 -- the least rule that is broken where the input ends at this place
-abbrev pub is_due : Stage → Bool
+abbrev pub is_due : OrderStage → Bool
 is_due stage.Start = true
 is_due stage.Due = true
 is_due _ = false
 
-abbrev pub is_headless : Stage → Bool
+abbrev pub is_headless : OrderStage → Bool
 is_headless stage.Headless = true
 is_headless _ = false
 

@@ -17,7 +17,7 @@ use Rattle.uac_sentence.specs.Values.{HasValues}
 
 -- the block may stand in this context: there its row reads its bytes
 abbrev pub SpellsItself : Context → block.Block → Type 0
-SpellsItself place b = Spells place b (spelling b)
+SpellsItself context b = Spells context b (spelling b)
 
 -- the bytes of blocks, and how many they are
 abbrev pub spellings : List block.Block → List ℕ

@@ -5,13 +5,14 @@ use Rattle.uac_sentence.specs.declared.letters.Letter.TheVariants.{Device, Confi
 use Rattle.uac_sentence.specs.declared.letters.Letter.TheVariants.{ControlInterface, StreamingInterface, ForeignInterface, Endpoint, Header}
 use Rattle.uac_sentence.specs.declared.letters.Letter.TheVariants.{Entity, General, TypeOne, Extra, ClassEndpoint, Other, UnknownSubtype}
 use Rattle.uac_sentence.specs.declared.letters.Letter.TheVariants.{Stray}
-use Rattle.uac_sentence.specs.declared.stages.Stage.{Stage}
-use Rattle.uac_sentence.specs.declared.stages.Stage.TheVariants.{Start, Due, Opening, Before, Announced, Headless, Listing, Quiet, Setting}
-use Rattle.uac_sentence.specs.declared.stages.Stage.TheVariants.{Formats, Formatted, FirstEndpoint, FirstDone, SecondEndpoint, Closing}
-use Rattle.uac_sentence.specs.declared.stages.Stage.TheVariants.{ForeignAfter}
+use Rattle.uac_sentence.specs.declared.stages.OrderStage.{OrderStage}
+use Rattle.uac_sentence.specs.declared.stages.OrderStage.TheVariants.{Start, Due, Opening, Before, Announced, Headless, Listing, Quiet}
+use Rattle.uac_sentence.specs.declared.stages.OrderStage.TheVariants.{Setting}
+use Rattle.uac_sentence.specs.declared.stages.OrderStage.TheVariants.{Formats, Formatted, FirstEndpoint, FirstDone, SecondEndpoint, Closing}
+use Rattle.uac_sentence.specs.declared.stages.OrderStage.TheVariants.{ForeignAfter}
 
 -- after the control interface's part, another part may begin
-abbrev pub begin_part : Letter → Option Stage
+abbrev pub begin_part : Letter → Option OrderStage
 begin_part StreamingInterface = Some Setting
 begin_part ForeignAssociation = Some ForeignAfter
 begin_part ForeignInterface = Some ForeignAfter
@@ -31,7 +32,7 @@ begin_part UnknownSubtype = None
 begin_part Stray = None
 
 -- where a block of this letter leads, or nowhere, where the order does not allow it
-abbrev pub next_stage : Stage → Letter → Option Stage
+abbrev pub next_stage : OrderStage → Letter → Option OrderStage
 next_stage Start Device = Some Due
 next_stage Start Configuration = Some Opening
 next_stage Start _ = None
@@ -89,7 +90,7 @@ next_stage ForeignAfter StreamingInterface = Some Setting
 next_stage ForeignAfter _ = Some ForeignAfter
 
 -- the input may end here
-abbrev pub may_end : Stage → Bool
+abbrev pub may_end : OrderStage → Bool
 may_end Start = false
 may_end Due = false
 may_end Opening = false
@@ -108,7 +109,7 @@ may_end Closing = true
 may_end ForeignAfter = true
 
 -- the audio association has not come yet
-abbrev pub is_before_association : Stage → Bool
+abbrev pub is_before_association : OrderStage → Bool
 is_before_association Start = true
 is_before_association Due = true
 is_before_association Opening = true

@@ -21,25 +21,25 @@ IsAllowed n controls = control_bits n controls ≢ 2
 
 -- the fields of a block have values that the standard allows: of its controls, those that are played
 abbrev pub HasValues : Context → block.Block → Type 0
-HasValues place (variant.Endpoint e) = IsTrue (is_audio place) → IsTrue (is_isochronous e) → IsHighSpeed e
-HasValues place (variant.Header h) = h.version ≡ VERSION_02_00
-HasValues place (variant.InputTerminal t) = IsAllowed 1 t.controls
-HasValues place (variant.OutputTerminal t) = IsAllowed 1 t.controls
-HasValues place (variant.Mixer m) = length m.sources ≢ 0
-HasValues place (variant.Selector s) = (length s.sources ≢ 0) × IsAllowed 0 s.controls
-HasValues place (variant.Feature f) = AllByRecursion (λ word. IsAllowed 0 word × IsAllowed 1 word) f.words
-HasValues place (variant.Effect e) = AllByRecursion (IsAllowed 0) e.words
-HasValues place (variant.ClockSource c) = IsAllowed 0 c.controls × IsAllowed 1 c.controls
-HasValues place (variant.ClockSelector c) = (length c.sources ≢ 0) × IsAllowed 0 c.controls
-HasValues place (variant.ClockMultiplier c) = IsAllowed 0 c.controls × IsAllowed 1 c.controls
-HasValues place (variant.General g) = IsAllowed 0 g.controls × IsAllowed 1 g.controls
-HasValues place (variant.TypeOne t) = IsTypeOneFormat t
-HasValues place (variant.Configuration _) = Unit {0}
-HasValues place (variant.Association _) = Unit {0}
-HasValues place (variant.Interface _) = Unit {0}
-HasValues place (variant.Extra _) = Unit {0}
-HasValues place (variant.ClassEndpoint _) = Unit {0}
-HasValues place (variant.Foreign _) = Unit {0}
+HasValues context (variant.Endpoint e) = IsTrue (is_audio context) → IsTrue (is_isochronous e) → IsHighSpeed e
+HasValues context (variant.Header h) = h.version ≡ VERSION_02_00
+HasValues context (variant.InputTerminal t) = IsAllowed 1 t.controls
+HasValues context (variant.OutputTerminal t) = IsAllowed 1 t.controls
+HasValues context (variant.Mixer m) = length m.sources ≢ 0
+HasValues context (variant.Selector s) = (length s.sources ≢ 0) × IsAllowed 0 s.controls
+HasValues context (variant.Feature f) = AllByRecursion (λ word. IsAllowed 0 word × IsAllowed 1 word) f.words
+HasValues context (variant.Effect e) = AllByRecursion (IsAllowed 0) e.words
+HasValues context (variant.ClockSource c) = IsAllowed 0 c.controls × IsAllowed 1 c.controls
+HasValues context (variant.ClockSelector c) = (length c.sources ≢ 0) × IsAllowed 0 c.controls
+HasValues context (variant.ClockMultiplier c) = IsAllowed 0 c.controls × IsAllowed 1 c.controls
+HasValues context (variant.General g) = IsAllowed 0 g.controls × IsAllowed 1 g.controls
+HasValues context (variant.TypeOne t) = IsTypeOneFormat t
+HasValues context (variant.Configuration _) = Unit {0}
+HasValues context (variant.Association _) = Unit {0}
+HasValues context (variant.Interface _) = Unit {0}
+HasValues context (variant.Extra _) = Unit {0}
+HasValues context (variant.ClassEndpoint _) = Unit {0}
+HasValues context (variant.Foreign _) = Unit {0}
 
 -- which values are wrong, as tests
 abbrev pub is_barred : ℕ → ℕ → Bool
@@ -47,22 +47,22 @@ is_barred n controls = control_bits n controls == 2
 
 -- rule G4: a field has a value that is not allowed
 unfoldable pub has_wrong_value : Context → block.Block → Bool
-has_wrong_value place (variant.Endpoint e) = is_audio place && is_isochronous e && is_no_high_speed e
-has_wrong_value place (variant.Header h) = not (h.version == VERSION_02_00)
-has_wrong_value place (variant.InputTerminal t) = is_barred 1 t.controls
-has_wrong_value place (variant.OutputTerminal t) = is_barred 1 t.controls
-has_wrong_value place (variant.Mixer m) = length m.sources == 0
-has_wrong_value place (variant.Selector s) = length s.sources == 0 || is_barred 0 s.controls
-has_wrong_value place (variant.Feature f) = list_any (λ word. is_barred 0 word || is_barred 1 word) f.words
-has_wrong_value place (variant.Effect e) = list_any (is_barred 0) e.words
-has_wrong_value place (variant.ClockSource c) = is_barred 0 c.controls || is_barred 1 c.controls
-has_wrong_value place (variant.ClockSelector c) = length c.sources == 0 || is_barred 0 c.controls
-has_wrong_value place (variant.ClockMultiplier c) = is_barred 0 c.controls || is_barred 1 c.controls
-has_wrong_value place (variant.General g) = is_barred 0 g.controls || is_barred 1 g.controls
-has_wrong_value place (variant.TypeOne t) = is_no_format t
-has_wrong_value place (variant.Configuration _) = false
-has_wrong_value place (variant.Association _) = false
-has_wrong_value place (variant.Interface _) = false
-has_wrong_value place (variant.Extra _) = false
-has_wrong_value place (variant.ClassEndpoint _) = false
-has_wrong_value place (variant.Foreign _) = false
+has_wrong_value context (variant.Endpoint e) = is_audio context && is_isochronous e && is_no_high_speed e
+has_wrong_value context (variant.Header h) = not (h.version == VERSION_02_00)
+has_wrong_value context (variant.InputTerminal t) = is_barred 1 t.controls
+has_wrong_value context (variant.OutputTerminal t) = is_barred 1 t.controls
+has_wrong_value context (variant.Mixer m) = length m.sources == 0
+has_wrong_value context (variant.Selector s) = length s.sources == 0 || is_barred 0 s.controls
+has_wrong_value context (variant.Feature f) = list_any (λ word. is_barred 0 word || is_barred 1 word) f.words
+has_wrong_value context (variant.Effect e) = list_any (is_barred 0) e.words
+has_wrong_value context (variant.ClockSource c) = is_barred 0 c.controls || is_barred 1 c.controls
+has_wrong_value context (variant.ClockSelector c) = length c.sources == 0 || is_barred 0 c.controls
+has_wrong_value context (variant.ClockMultiplier c) = is_barred 0 c.controls || is_barred 1 c.controls
+has_wrong_value context (variant.General g) = is_barred 0 g.controls || is_barred 1 g.controls
+has_wrong_value context (variant.TypeOne t) = is_no_format t
+has_wrong_value context (variant.Configuration _) = false
+has_wrong_value context (variant.Association _) = false
+has_wrong_value context (variant.Interface _) = false
+has_wrong_value context (variant.Extra _) = false
+has_wrong_value context (variant.ClassEndpoint _) = false
+has_wrong_value context (variant.Foreign _) = false

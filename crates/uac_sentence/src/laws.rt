@@ -1,7 +1,7 @@
 // The laws of the grammar. These functions do nothing: their clauses are the laws.
 ghost use Rattle.std.specs.Prelude.{◌≡◌, ℕ, ◌+◌, ◌↔◌, List, [], ◌∷◌, ◌++◌, length, Some, None};
 ghost use Rattle.uac_descriptor.specs.declared.block.Block.{Block};
-ghost use Rattle.uac_descriptor.specs.BlockReading.{block_of};
+ghost use Rattle.uac_descriptor.specs.BlockParsing.{block_of};
 ghost use Rattle.uac_descriptor.specs.WellFormed.{AreWellFormed};
 ghost use Rattle.uac_sentence.specs.declared.faults.GrammarFault.{GrammarFault};
 ghost use Rattle.uac_sentence.specs.declared.states.State.{State};

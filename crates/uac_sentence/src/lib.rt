@@ -22,7 +22,7 @@ mod faults;
 
 pub use faults::GrammarFault;
 pub use letters::Letter;
-pub use stages::Stage;
+pub use stages::OrderStage;
 pub use states::{FURTHEST, Latest, Listing, State};
 pub use uac_descriptor::classes;
 pub use values::has_wrong_value;

@@ -27,7 +27,7 @@ ghost use Rattle.uac_sentence.specs.Grammar.{
 };
 
 use crate::letters::Letter;
-use crate::stages::Stage;
+use crate::stages::OrderStage;
 use crate::states::{FURTHEST, Listing, State};
 use crate::turns::{end_after, is_in_turn, is_listed, listing_after};
 use crate::values::has_wrong_value;
@@ -161,7 +161,7 @@ fn is_out_of_order(state: &State, block: &Block) -> bool
 
 /// G7: the audio association is missing, or the control interface after it.
 #[tactic(auto, unfolding(crate::specs::Grammar::lacks_association))]
-fn lacks_association(stage: Stage, letter: Letter) -> bool
+fn lacks_association(stage: OrderStage, letter: Letter) -> bool
     ensures { result ≡ lacks_association stage letter }
 {
     is_before_association(stage) && is_audio_interface(letter)
@@ -170,7 +170,7 @@ fn lacks_association(stage: Stage, letter: Letter) -> bool
 
 /// G8: a class block of an unknown subtype in the list of entities.
 #[tactic(auto, unfolding(crate::specs::Grammar::lists_unknown))]
-fn lists_unknown(stage: Stage, letter: Letter) -> bool
+fn lists_unknown(stage: OrderStage, letter: Letter) -> bool
     ensures { result ≡ lists_unknown stage letter }
 {
     is_listing(stage) && is_unknown(letter)
@@ -178,7 +178,7 @@ fn lists_unknown(stage: Stage, letter: Letter) -> bool
 
 /// G9: a second audio association or a second control interface.
 #[tactic(auto, unfolding(crate::specs::Grammar::comes_again))]
-fn comes_again(stage: Stage, letter: Letter) -> bool
+fn comes_again(stage: OrderStage, letter: Letter) -> bool
     ensures { result ≡ comes_again stage letter }
 {
     !is_before_association(stage) && is_association(letter)
@@ -186,62 +186,62 @@ fn comes_again(stage: Stage, letter: Letter) -> bool
 }
 
 /// The audio association has not come yet.
-fn is_before_association(stage: Stage) -> bool
+fn is_before_association(stage: OrderStage) -> bool
     ensures { result ≡ is_before_association stage }
 {
     matches!(
         stage,
-        Stage::Start | Stage::Due | Stage::Opening | Stage::Before
+        OrderStage::Start | OrderStage::Due | OrderStage::Opening | OrderStage::Before
     )
 }
 
 /// The configuration is due.
-fn is_due(stage: Stage) -> bool
+fn is_due(stage: OrderStage) -> bool
     ensures { result ≡ is_due stage }
 {
-    matches!(stage, Stage::Start | Stage::Due)
+    matches!(stage, OrderStage::Start | OrderStage::Due)
 }
 
 /// The control interface is due.
-fn is_announced(stage: Stage) -> bool
+fn is_announced(stage: OrderStage) -> bool
     ensures { result ≡ is_announced stage }
 {
-    matches!(stage, Stage::Announced)
+    matches!(stage, OrderStage::Announced)
 }
 
 /// The control interface was read.
-fn is_past_control(stage: Stage) -> bool
+fn is_past_control(stage: OrderStage) -> bool
     ensures { result ≡ is_past_control stage }
 {
     !is_before_association(stage) && !is_announced(stage)
 }
 
 /// The header is due.
-fn is_headless(stage: Stage) -> bool
+fn is_headless(stage: OrderStage) -> bool
     ensures { result ≡ is_headless stage }
 {
-    matches!(stage, Stage::Headless)
+    matches!(stage, OrderStage::Headless)
 }
 
 /// In the list of entities.
-fn is_listing(stage: Stage) -> bool
+fn is_listing(stage: OrderStage) -> bool
     ensures { result ≡ is_listing stage }
 {
-    matches!(stage, Stage::Listing)
+    matches!(stage, OrderStage::Listing)
 }
 
 /// The input may end here.
-fn may_end(stage: Stage) -> bool
+fn may_end(stage: OrderStage) -> bool
     ensures { result ≡ may_end stage }
 {
     !matches!(
         stage,
-        Stage::Start
-            | Stage::Due
-            | Stage::Opening
-            | Stage::Before
-            | Stage::Announced
-            | Stage::Headless
+        OrderStage::Start
+            | OrderStage::Due
+            | OrderStage::Opening
+            | OrderStage::Before
+            | OrderStage::Announced
+            | OrderStage::Headless
     )
 }
 

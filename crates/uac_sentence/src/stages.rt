@@ -6,7 +6,7 @@ use crate::letters::Letter;
 
 /// How far in the order of the descriptor the blocks have come.
 #[derive(Clone, Copy, Debug)]
-pub enum Stage {
+pub enum OrderStage {
     /// Before the first block.
     Start,
     /// After the device descriptor: the configuration is due.
@@ -41,68 +41,76 @@ pub enum Stage {
     ForeignAfter,
 }
 
-impl Stage {
+impl OrderStage {
     /// Where a block of this letter leads; None exactly where the order does not allow it.
-    pub fn after(self, letter: Letter) -> Option<Stage>
+    pub fn after(self, letter: Letter) -> Option<OrderStage>
         ensures { result ≡ next_stage self letter }
     {
         match (self, letter) {
-            (Stage::Start, Letter::Device) => Some(Stage::Due),
-            (Stage::Start | Stage::Due, Letter::Configuration) => Some(Stage::Opening),
-            (Stage::Start | Stage::Due, _) => None,
-            (Stage::Opening, Letter::Other) => Some(Stage::Opening),
-            (Stage::Opening, Letter::ForeignAssociation | Letter::ForeignInterface) => Some(
-                Stage::Before,
+            (OrderStage::Start, Letter::Device) => Some(OrderStage::Due),
+            (OrderStage::Start | OrderStage::Due, Letter::Configuration) => Some(
+                OrderStage::Opening,
             ),
-            (Stage::Opening | Stage::Before, Letter::AudioAssociation) => Some(Stage::Announced),
-            (Stage::Opening, _) => None,
+            (OrderStage::Start | OrderStage::Due, _) => None,
+            (OrderStage::Opening, Letter::Other) => Some(OrderStage::Opening),
+            (OrderStage::Opening, Letter::ForeignAssociation | Letter::ForeignInterface) => Some(
+                OrderStage::Before,
+            ),
+            (OrderStage::Opening | OrderStage::Before, Letter::AudioAssociation) => Some(
+                OrderStage::Announced,
+            ),
+            (OrderStage::Opening, _) => None,
             (
-                Stage::Before,
+                OrderStage::Before,
                 Letter::Configuration | Letter::ControlInterface | Letter::StreamingInterface,
             ) => None,
-            (Stage::Before, _) => Some(Stage::Before),
-            (Stage::Announced, Letter::ControlInterface) => Some(Stage::Headless),
-            (Stage::Headless, Letter::Header) => Some(Stage::Listing),
-            (Stage::Announced | Stage::Headless, _) => None,
-            (Stage::Listing, Letter::Entity) => Some(Stage::Listing),
-            (Stage::Listing | Stage::Quiet, Letter::Other) => Some(Stage::Quiet),
-            (Stage::Listing | Stage::Quiet, Letter::Endpoint) => Some(Stage::Closing),
-            (Stage::Setting, Letter::Other) => Some(Stage::Setting),
-            (Stage::Setting, Letter::General) => Some(Stage::Formats),
-            (Stage::Formats, Letter::Extra) => Some(Stage::Formats),
-            (Stage::Formats, Letter::TypeOne) => Some(Stage::Formatted),
-            (Stage::Formatted, Letter::Extra) => Some(Stage::Formatted),
-            (Stage::Formats | Stage::Formatted, Letter::Endpoint) => Some(Stage::FirstEndpoint),
-            (Stage::FirstEndpoint, Letter::ClassEndpoint) => Some(Stage::FirstDone),
-            (Stage::FirstEndpoint | Stage::FirstDone, Letter::Endpoint) => Some(
-                Stage::SecondEndpoint,
+            (OrderStage::Before, _) => Some(OrderStage::Before),
+            (OrderStage::Announced, Letter::ControlInterface) => Some(OrderStage::Headless),
+            (OrderStage::Headless, Letter::Header) => Some(OrderStage::Listing),
+            (OrderStage::Announced | OrderStage::Headless, _) => None,
+            (OrderStage::Listing, Letter::Entity) => Some(OrderStage::Listing),
+            (OrderStage::Listing | OrderStage::Quiet, Letter::Other) => Some(OrderStage::Quiet),
+            (OrderStage::Listing | OrderStage::Quiet, Letter::Endpoint) => Some(
+                OrderStage::Closing,
             ),
-            (Stage::SecondEndpoint, Letter::ClassEndpoint) => Some(Stage::Closing),
+            (OrderStage::Setting, Letter::Other) => Some(OrderStage::Setting),
+            (OrderStage::Setting, Letter::General) => Some(OrderStage::Formats),
+            (OrderStage::Formats, Letter::Extra) => Some(OrderStage::Formats),
+            (OrderStage::Formats, Letter::TypeOne) => Some(OrderStage::Formatted),
+            (OrderStage::Formatted, Letter::Extra) => Some(OrderStage::Formatted),
+            (OrderStage::Formats | OrderStage::Formatted, Letter::Endpoint) => Some(
+                OrderStage::FirstEndpoint,
+            ),
+            (OrderStage::FirstEndpoint, Letter::ClassEndpoint) => Some(OrderStage::FirstDone),
+            (OrderStage::FirstEndpoint | OrderStage::FirstDone, Letter::Endpoint) => Some(
+                OrderStage::SecondEndpoint,
+            ),
+            (OrderStage::SecondEndpoint, Letter::ClassEndpoint) => Some(OrderStage::Closing),
             (
-                Stage::ForeignAfter,
+                OrderStage::ForeignAfter,
                 Letter::Configuration | Letter::AudioAssociation | Letter::ControlInterface,
             ) => None,
-            (Stage::ForeignAfter, Letter::StreamingInterface) => Some(Stage::Setting),
-            (Stage::ForeignAfter, _) => Some(Stage::ForeignAfter),
+            (OrderStage::ForeignAfter, Letter::StreamingInterface) => Some(OrderStage::Setting),
+            (OrderStage::ForeignAfter, _) => Some(OrderStage::ForeignAfter),
             (
-                Stage::Formats
-                | Stage::Formatted
-                | Stage::FirstEndpoint
-                | Stage::FirstDone
-                | Stage::SecondEndpoint
-                | Stage::Closing,
+                OrderStage::Formats
+                | OrderStage::Formatted
+                | OrderStage::FirstEndpoint
+                | OrderStage::FirstDone
+                | OrderStage::SecondEndpoint
+                | OrderStage::Closing,
                 Letter::Other,
-            ) => Some(Stage::Closing),
+            ) => Some(OrderStage::Closing),
             (
-                Stage::Listing
-                | Stage::Quiet
-                | Stage::Setting
-                | Stage::Formats
-                | Stage::Formatted
-                | Stage::FirstEndpoint
-                | Stage::FirstDone
-                | Stage::SecondEndpoint
-                | Stage::Closing,
+                OrderStage::Listing
+                | OrderStage::Quiet
+                | OrderStage::Setting
+                | OrderStage::Formats
+                | OrderStage::Formatted
+                | OrderStage::FirstEndpoint
+                | OrderStage::FirstDone
+                | OrderStage::SecondEndpoint
+                | OrderStage::Closing,
                 letter,
             ) => begin_part(letter),
         }
@@ -110,12 +118,12 @@ impl Stage {
 }
 
 /// After the control interface's part, another part may begin.
-fn begin_part(letter: Letter) -> Option<Stage>
+fn begin_part(letter: Letter) -> Option<OrderStage>
     ensures { result ≡ begin_part letter }
 {
     match letter {
-        Letter::StreamingInterface => Some(Stage::Setting),
-        Letter::ForeignAssociation | Letter::ForeignInterface => Some(Stage::ForeignAfter),
+        Letter::StreamingInterface => Some(OrderStage::Setting),
+        Letter::ForeignAssociation | Letter::ForeignInterface => Some(OrderStage::ForeignAfter),
         Letter::Device
         | Letter::Configuration
         | Letter::AudioAssociation

@@ -1,6 +1,6 @@
 // What the blocks so far leave to be remembered.
 use crate::letters::Letter;
-use crate::stages::Stage;
+use crate::stages::OrderStage;
 use crate::turns::{end_after, latest_after, listing_after, use_number};
 use uac_descriptor::{Block, Context};
 
@@ -31,7 +31,7 @@ pub struct State {
     /// Where the next block stands.
     pub context: Context,
     /// How far in the order the blocks have come.
-    pub stage: Stage,
+    pub stage: OrderStage,
     /// Which numbers the control interface and the streaming interfaces so far have.
     pub used: [bool; 256],
     /// The latest interface, if it is a streaming interface.
@@ -52,7 +52,7 @@ impl State {
     {
         State {
             context: Context::DeviceFront,
-            stage: Stage::Start,
+            stage: OrderStage::Start,
             used: [false; 256],
             latest: None,
             end: None,

@@ -16,7 +16,7 @@ use uac_descriptor::{Block, Context};
 
 /// A test for blocks that no reader gave, as those of tests: it is true only of well-formed blocks. Of a sentence's blocks it
 /// is true: it asks exactly for a sentence's values, its control interface and its numbers in turn. It takes no memory.
-#[tactic(auto, using(crate::proofs::WellFormedLemmas::well_formed_by, crate::proofs::WellFormedLemmas::sentence_passes))]
+#[tactic(auto, using(crate::proofs::SentenceWellFormedLemmas::well_formed_by, crate::proofs::SentenceWellFormedLemmas::sentence_passes))]
 pub fn are_well_formed(blocks: &[Block]) -> bool
     ensures well_formed { OnTrue result (AreWellFormed blocks.now) }
     ensures sentence { (bytes : List ℕ) → IsSentence bytes blocks.now → result ≡ true }

@@ -1,5 +1,5 @@
 -- Steady scripts: line by line.
-pub mod Steps
-pub mod Forward
-pub mod Beginning
-pub mod LookingBackwards
+pub mod ScriptsEarlierLemmas
+pub mod ScriptsLineLemmas
+pub mod ScriptsStartLemmas
+pub mod ScriptsLemmas

@@ -4,7 +4,7 @@ use Rattle.std.specs.Prelude.{◌≡◌, ℕ, Bool, true, List, map}
 use Rattle.std.specs.List.{All}
 use Rattle.uac_units.specs.Hearing.{Reading}
 use Rattle.uac_rate.specs.Steadiness as steadiness
-use Rattle.uac_script.specs.LineReading.{answer}
+use Rattle.uac_script.specs.LineParsing.{answer}
 use Rattle.uac_bus.specs.BusWorld.{BusWorld, describing, running, start}
 use Rattle.uac_bus.specs.After.{After, after}
 use Rattle.uac_bands.specs.BandRun.{IsNearLevel, IsNoUnder, RunInBand}
@@ -25,7 +25,7 @@ after_texts texts shown = after (map answer texts) (start shown)
 
 -- lines of a script that leave a steady world: each stream is in its band there, no line that they printed tells of a ring that was found
 -- empty, and each that tells the level of a primed stream tells one near its target
-pub record KeepsBands (a : After) : Type 0 where
+pub record IsWithinBands (a : After) : Type 0 where
   pub band : IsInBand a.world
   pub no_under : All IsNoUnder a.lines
   pub near : All IsNearLevel a.lines
@@ -34,4 +34,4 @@ pub record KeepsBands (a : After) : Type 0 where
 abbrev pub SteadyScriptsKeepBands : Type 0
 SteadyScriptsKeepBands =
     (texts : List (List ℕ)) (shown : List Reading) → is_steady_in (after_texts texts shown).world ≡ true
-    → KeepsBands (after_texts texts shown)
+    → IsWithinBands (after_texts texts shown)

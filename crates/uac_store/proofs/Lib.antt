@@ -1,10 +1,10 @@
-pub mod Initial
-pub mod Keeping
-pub mod Setting
+pub mod StoreControlsLemmas
+pub mod KeyedStartLemmas
+pub mod KeyedLemmas
 pub mod RatesWalkLemmas
-pub mod Small
-pub mod Soundness
-pub mod Starting
+pub mod StoreControlsIdLemmas
+pub mod StoreControlsSoundLemmas
+pub mod StoreControlsStartLemmas
 pub mod RatesStepLemmas
 pub mod ControlTableLemmas
 mod Worked

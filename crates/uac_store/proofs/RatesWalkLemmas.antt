@@ -11,21 +11,21 @@ use Rattle.uac_entities.specs.EntityInterfaces.{entity_by_id}
 use Rattle.uac_entities.specs.declared.entity.Entity.{Entity}
 use Rattle.uac_entities.specs.declared.entity.EntityKind.{EntityKind}
 use Rattle.uac_entities.specs.declared.entity.EntityKind.TheVariants as kind
-use Rattle.uac_topology_rules.specs.Table.{place_of}
+use Rattle.uac_topology_rules.specs.Table.{index_of}
 use Rattle.uac_topology_rules.specs.Links.{clock_sources, clock_links, is_clock}
 use Rattle.uac_store.specs.declared.keys.Key.{Key}
 use Rattle.uac_store.specs.Rates.{value_at, source_on_pin, chosen_source, multiplier_rate, rate_by, rate_step, rate_within, rate_of, EndsWithin, IsClockTree}
 
--- the links of the first entity with an id are those of its place
-links_at_place : (f : Entity → List ℕ) (xs : List Entity) (id : ℕ) (e : Entity) → entity_by_id xs id ≡ Some e → slice_index_or (map f xs) (place_of xs id) [] ≡ f e
-unfolding entity_by_id place_of
-links_at_place f [] id e is = cc
-links_at_place f (x ∷ xs) id e is = from (x.id == id) is (λ h. links_at_place f xs id e h) where
-  from : (b : Bool) → (if b then Some x else entity_by_id xs id) ≡ Some e → (entity_by_id xs id ≡ Some e → slice_index_or (map f xs) (place_of xs id) [] ≡ f e)
-      → slice_index_or (f x ∷ map f xs) (if not b then 1 + place_of xs id else 0) [] ≡ f e
+-- the links of the first entity with an id are those of its index
+links_at_index : (f : Entity → List ℕ) (xs : List Entity) (id : ℕ) (e : Entity) → entity_by_id xs id ≡ Some e → slice_index_or (map f xs) (index_of xs id) [] ≡ f e
+unfolding entity_by_id index_of
+links_at_index f [] id e is = cc
+links_at_index f (x ∷ xs) id e is = from (x.id == id) is (λ h. links_at_index f xs id e h) where
+  from : (b : Bool) → (if b then Some x else entity_by_id xs id) ≡ Some e → (entity_by_id xs id ≡ Some e → slice_index_or (map f xs) (index_of xs id) [] ≡ f e)
+      → slice_index_or (f x ∷ map f xs) (if not b then 1 + index_of xs id else 0) [] ≡ f e
   from true here rest = let i : x ≡ e = cc in ap f i
   from false other rest =
-      let next : 1 + place_of xs id ≡ suc (place_of xs id) = omega arith in
+      let next : 1 + index_of xs id ≡ suc (index_of xs id) = omega arith in
       ap (λ m. slice_index_or (f x ∷ map f xs) m []) next ∙ rest other
 
 -- what no element passes, none of them does
@@ -38,11 +38,11 @@ sources_end : (all : List Entity) (id n : ℕ) (e : Entity) (i s : ℕ) → enti
 unfolding has_walk clock_sources
 sources_end all id n e i s is clock ends at =
     let graph = clock_links all in
-    let named_links : links graph (place_of all id) ≡ map (place_of all) e.sources =
-    links_at_place (λ x. map (place_of all) (clock_sources x)) all id e is
-    ∙ ap (λ (b : Bool). map (place_of all) (if b then e.sources else [])) clock in
-    none_passes (has_walk graph n) (map (place_of all) e.sources) i (place_of all s)
-    (ap (list_any (has_walk graph n)) (sym named_links) ∙ ends) (slice_get-map (place_of all) e.sources i ∙ ap (option_map (place_of all)) at)
+    let named_links : links graph (index_of all id) ≡ map (index_of all) e.sources =
+    links_at_index (λ x. map (index_of all) (clock_sources x)) all id e is
+    ∙ ap (λ (b : Bool). map (index_of all) (if b then e.sources else [])) clock in
+    none_passes (has_walk graph n) (map (index_of all) e.sources) i (index_of all s)
+    (ap (list_any (has_walk graph n)) (sym named_links) ∙ ends) (slice_get-map (index_of all) e.sources i ∙ ap (option_map (index_of all)) at)
 
 -- the source that is chosen is one of the sources
 chosen_is_source : (controls : List (Key × ℤ)) (e : Entity) (s : ℕ) → chosen_source controls e ≡ Some s → (i : ℕ) × (slice_get e.sources i ≡ Some s)
@@ -95,18 +95,18 @@ settles all controls id (suc n) more ends =
     (λ e i s is clock at. settles all controls s n more (sources_end all id n e i s is clock ends at))
 
 -- an entity that is not there has no walk
-ends_at_once : (all : List Entity) (m place : ℕ) → length all ≤ place → has_walk (clock_links all) (suc m) place ≡ false
+ends_at_once : (all : List Entity) (m index : ℕ) → length all ≤ index → has_walk (clock_links all) (suc m) index ≡ false
 unfolding has_walk
-ends_at_once all m place past =
-    ap (list_any (has_walk (clock_links all) m)) (get_or_past (clock_links all) place [] (omega (arith, past, length-map all (λ e. map (place_of all) (clock_sources e)))))
+ends_at_once all m index past =
+    ap (list_any (has_walk (clock_links all) m)) (get_or_past (clock_links all) index [] (omega (arith, past, length-map all (λ e. map (index_of all) (clock_sources e)))))
 
 pub follows : (all : List Entity) (controls : List (Key × ℤ)) (id : ℕ) → IsClockTree all → rate_of all controls id ≡ rate_step all controls (rate_of all controls) id
 unfolding rate_of rate_within rate_step entity_by_id
 follows [] controls id tree = refl
 follows (x ∷ xs) controls id tree =
-    sym (settles (x ∷ xs) controls id (length (x ∷ xs)) 1 (ends (cases_lt (place_of (x ∷ xs) id) (length (x ∷ xs)))))
+    sym (settles (x ∷ xs) controls id (length (x ∷ xs)) 1 (ends (cases_lt (index_of (x ∷ xs) id) (length (x ∷ xs)))))
     ∙ (let e : length (x ∷ xs) + 1 ≡ suc (length (x ∷ xs)) = omega arith in ap (λ m. rate_within m (x ∷ xs) controls id) e)
   where
-    ends : (place_of (x ∷ xs) id < length (x ∷ xs)) ⊎ (length (x ∷ xs) ≤ place_of (x ∷ xs) id) → EndsWithin (length (x ∷ xs)) (x ∷ xs) id
-    ends (inl within) = tree (place_of (x ∷ xs) id) within
-    ends (inr past) = ends_at_once (x ∷ xs) (length xs) (place_of (x ∷ xs) id) past
+    ends : (index_of (x ∷ xs) id < length (x ∷ xs)) ⊎ (length (x ∷ xs) ≤ index_of (x ∷ xs) id) → EndsWithin (length (x ∷ xs)) (x ∷ xs) id
+    ends (inl within) = tree (index_of (x ∷ xs) id) within
+    ends (inr past) = ends_at_once (x ∷ xs) (length xs) (index_of (x ∷ xs) id) past

@@ -11,7 +11,7 @@ use Rattle.uac_store.specs.declared.controls.Control.{Control}
 use Rattle.uac_store.specs.declared.controls.Control.TheVariants as control
 use Rattle.uac_store.specs.declared.keys.Key.{Key}
 use Rattle.uac_store.specs.declared.keys.Range.{Range}
-use Rattle.uac_store.specs.ControlTable.{facts_of, keeps_value, ranges_as, selectors_of}
+use Rattle.uac_store.specs.ControlTable.{facts_of, stores_value, ranges_as, selectors_of}
 use Rattle.uac_store.specs.Keyed.{key_of, value_of, with_value}
 use Rattle.uac_store.specs.StoreControls.{pins_of, count_of, node_start, start_of, first_channels, channel_controls, controls_of, initial_controls, has_on, has_control, takes_on, takes}
 use Rattle.uac_store.specs.Rates.{source_rate, chosen_source, multiplier_rate, rate_step, rate_within, rate_of}
@@ -34,7 +34,7 @@ ranged_where_ranges control.Volume pins attributes = refl
 ranged_where_ranges control.Enable pins attributes = refl
 
 -- the controls that keep a value have the selectors 1 to the count of them
-kept_from_one : (k : EntityKind) → (keeps_value k 1 ≡ nat_le 1 (selectors_of k)) × (keeps_value k 2 ≡ nat_le 2 (selectors_of k))
+kept_from_one : (k : EntityKind) → (stores_value k 1 ≡ nat_le 1 (selectors_of k)) × (stores_value k 2 ≡ nat_le 2 (selectors_of k))
 kept_from_one kind.ClockSource = (refl, refl)
 kept_from_one kind.ClockSelector = (refl, refl)
 kept_from_one kind.ClockMultiplier = (refl, refl)

@@ -73,17 +73,17 @@ spread_of kind.Effect = spread.Channels
 abbrev pub facts_at : EntityKind → ℕ → Option Facts
 facts_at k selector = option_map facts_of (control_of k selector)
 
--- there is one, and it keeps a value
-abbrev pub keeps_value : EntityKind → ℕ → Bool
-keeps_value k selector = option_map_or (λ f. f.kept) (facts_at k selector) false
+-- there is one, and it stores a value
+abbrev pub stores_value : EntityKind → ℕ → Bool
+stores_value k selector = option_map_or (λ f. f.kept) (facts_at k selector) false
 
 -- there is one, and a host may ever set it
 abbrev pub is_settable : EntityKind → ℕ → Bool
 is_settable k selector = option_map_or (λ f. f.settable) (facts_at k selector) false
 
--- how many controls of an entity keep a value: their selectors are 1 to this
+-- how many controls of an entity store a value: their selectors are 1 to this
 abbrev pub selectors_of : EntityKind → ℕ
-selectors_of k = if keeps_value k 2 then 2 else if keeps_value k 1 then 1 else 0
+selectors_of k = if stores_value k 2 then 2 else if stores_value k 1 then 1 else 0
 
 -- ---- how many there are of each
 

@@ -8,7 +8,7 @@ use Rattle.uac_entities.specs.declared.entity.Entity.{Entity}
 use Rattle.uac_entities.specs.declared.entity.EntityKind.{EntityKind}
 use Rattle.uac_entities.specs.declared.entity.EntityKind.TheVariants as kind
 use Rattle.uac_walk.specs.Walk.{has_walk}
-use Rattle.uac_topology_rules.specs.Table.{place_of}
+use Rattle.uac_topology_rules.specs.Table.{index_of}
 use Rattle.uac_topology_rules.specs.Links.{clock_links}
 use Rattle.uac_store.specs.declared.keys.Key.{Key}
 use Rattle.uac_store.specs.Keyed.{key_of, value_of}
@@ -81,8 +81,8 @@ rate_of entities controls id = rate_within (length entities) entities controls i
 
 -- no walk of so many clock source links leads on from the entity with an id
 abbrev pub EndsWithin : ℕ → List Entity → ℕ → Type 0
-EndsWithin n entities id = has_walk (clock_links entities) n (place_of entities id) ≡ false
+EndsWithin n entities id = has_walk (clock_links entities) n (index_of entities id) ≡ false
 
 -- no walk of as many clock source links as there are entities leads on from any entity
 abbrev pub IsClockTree : List Entity → Type 0
-IsClockTree entities = (place : ℕ) → place < length entities → has_walk (clock_links entities) (length entities) place ≡ false
+IsClockTree entities = (index : ℕ) → index < length entities → has_walk (clock_links entities) (length entities) index ≡ false

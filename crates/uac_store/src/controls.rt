@@ -169,8 +169,8 @@ pub fn facts_at(kind: EntityKind, selector: u8) -> Option<Facts>
 }
 
 /// Whether a selector names a control that keeps a value.
-pub fn keeps_value(kind: EntityKind, selector: u8) -> bool
-    ensures { result ≡ table.keeps_value kind selector }
+pub fn stores_value(kind: EntityKind, selector: u8) -> bool
+    ensures { result ≡ table.stores_value kind selector }
 {
     match facts_at(kind, selector) {
         Some(facts) => facts.kept,
@@ -193,9 +193,9 @@ pub fn selectors_of(kind: EntityKind) -> u8
     ensures value { result ≡ table.selectors_of kind }
     ensures few { result ≤ 2 }
 {
-    if keeps_value(kind, 2) {
+    if stores_value(kind, 2) {
         2
-    } else if keeps_value(kind, 1) {
+    } else if stores_value(kind, 1) {
         1
     } else {
         0

@@ -10,7 +10,7 @@ ghost use Rattle.uac_topology.specs.Topology.{IsSoundFunction};
 ghost use Rattle.uac_store.specs.Rates.{rate_step, rate_within, rate_of, EndsWithin, IsClockTree};
 
 /// Where ids differ, each control has at the start the one value that its kind gives it, and no other key has one.
-#[tactic(auto, using(crate::proofs::Initial::initial_value))]
+#[tactic(auto, using(crate::proofs::StoreControlsLemmas::initial_value))]
 pub fn each_control_has_its_start_value()
     ensures { (entities : List Entity) (k : Key) → IsDistinct nat_eq (map (λ e. e.id) entities)
         → value_of (initial_controls entities) k ≡ start_at entities k }
@@ -31,7 +31,7 @@ pub fn each_rate_follows_its_sources()
 {}
 
 /// The controls of a sound function have a key each, and none of its clocks feeds itself.
-#[tactic(auto, using(crate::proofs::Soundness::keyed, crate::proofs::Soundness::clock_tree))]
+#[tactic(auto, using(crate::proofs::StoreControlsSoundLemmas::keyed, crate::proofs::StoreControlsSoundLemmas::clock_tree))]
 pub fn sound_functions_have_keys_and_rates()
     ensures keys { (function : FunctionFields) → IsSoundFunction function → IsKeyed function.entities }
     ensures rates { (function : FunctionFields) → IsSoundFunction function → IsClockTree function.entities }

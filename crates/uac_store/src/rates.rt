@@ -95,7 +95,7 @@ fn value(store: &Store, change: Option<Change>, entity: u8, selector: u8) -> Opt
 }
 
 // The value of a control under a change.
-#[tactic(auto, using(crate::proofs::Setting::changed_alone))]
+#[tactic(auto, using(crate::proofs::KeyedLemmas::changed_alone))]
 fn cur_under(store: &Store, change: Option<Change>, key: Key) -> Option<i32>
     requires { IfSome change (λ c. IsSome (value_of store.now c.key)) }
     ensures { result ≡ value_of (values_after store.now change) key }

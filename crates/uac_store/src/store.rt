@@ -35,7 +35,7 @@ impl Model for Store {
 
 impl Store {
     /// The controls of a function with their start values.
-    #[tactic(auto, using(crate::proofs::Initial::initial_is_store, crate::proofs::Soundness::keyed))]
+    #[tactic(auto, using(crate::proofs::StoreControlsLemmas::initial_is_store, crate::proofs::StoreControlsSoundLemmas::keyed))]
     pub fn new(alloc: Global, function: &Function) -> Result<Store, NoMemory>
         ensures starts { IfOk result (λ store. store ≡ initial_controls function.now.entities) }
         ensures of_function { IfOk result (λ store. IsStoreOf function.now.entities store) }
@@ -55,7 +55,7 @@ impl Store {
     }
 
     /// Gives a control a new value. It takes no memory.
-    #[tactic(auto, using(crate::proofs::Setting::changed_alone, crate::proofs::Setting::kept_by_set))]
+    #[tactic(auto, using(crate::proofs::KeyedLemmas::changed_alone, crate::proofs::KeyedLemmas::kept_by_set))]
     pub fn set(&mut self, key: Key, value: i32)
         requires { IsSome (value_of self.old key) }
         ensures value { self.new ≡ with_value self.old key value }

@@ -53,7 +53,7 @@ pub(crate) struct Change {
 ///
 /// None comes exactly where there is no control with this key that keeps a value, or it has no ranges, as mutes and
 /// enables have none. It takes no memory.
-#[tactic(auto, unfolding(crate::specs::StoreValues::ranges_of), using(crate::proofs::Small::small_named, crate::proofs::Soundness::keyed))]
+#[tactic(auto, unfolding(crate::specs::StoreValues::ranges_of), using(crate::proofs::StoreControlsIdLemmas::small_named, crate::proofs::StoreControlsSoundLemmas::keyed))]
 pub fn ranges(function: &Function, key: Key) -> Option<Ranges>
     ensures { option_map (λ ranges. ranges.items) result ≡ spec.ranges_of function.now.entities key }
 {

@@ -19,7 +19,7 @@ use Rattle.uac_flow.specs.Flows.{ZerosFit}
 use Rattle.uac_flow.specs.FlowStreams.{OutStream, after_packet, after_taking, after_ticks, frames_of, is_due, out_level, priming_level, settled_out, settled_when_due, takes_all, target_after, zeros_due}
 use Rattle.uac_device.specs.DeviceWorld.{DeviceWorld, Domain, next_ticks, step_in, steps_with_next}
 use Rattle.uac_device.specs.DeviceKept.{IsDeviationInRange}
-use Rattle.uac_device.proofs.Fastest.{nominal_most, rated_nominal}
+use Rattle.uac_device.proofs.DeviceTurnsTickLemmas.{nominal_most, rated_nominal}
 use Rattle.uac_streaming.specs.Room.{HasRoom}
 
 -- ---- service intervals

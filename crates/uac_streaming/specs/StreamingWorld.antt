@@ -64,7 +64,7 @@ numbers_out function = filter (goes_out function) (numbers function)
 abbrev pub numbers_in : FunctionFields → List ℕ
 numbers_in function = filter (comes_in function) (numbers function)
 
--- the place of an interface among the streaming ones, in block order
+-- the index of an interface among the streaming ones, in block order
 abbrev pub stream_index : FunctionFields → ℕ → Option ℕ
 stream_index function interface = position (λ s. s.number == interface) function.streams
 
@@ -287,10 +287,10 @@ all_settled detail w = in_turn (settled_turn detail) (numbers w.device.function)
 
 -- ---- feedback
 
--- what happens to the reports of the interface at a place, where there is one
+-- what happens to the reports of the interface at an index, where there is one
 abbrev pub given_at : Option ℕ → (ℕ → SteadyHistory → SteadyHistory) → SteadyHistory → SteadyHistory
 given_at None event given = given
-given_at (Some place) event given = event place given
+given_at (Some index) event given = event index given
 
 -- a report is lost, or comes to the host
 unfoldable pub report_made : Bool → ℕ → ℕ → StreamingWorld → StreamingWorld
@@ -298,7 +298,7 @@ report_made lost value interface w =
     record w {
       host = if lost then w.host else with_report interface value w.host;
       met = counted_at interface (λ c. if lost then one_missed c else c) w.met;
-      history = given_at (stream_index w.device.function interface) (λ place. with_report_given place lost) w.history;
+      history = given_at (stream_index w.device.function interface) (λ index. with_report_given index lost) w.history;
     }
 
 -- from detail 2 on it is said

@@ -96,12 +96,12 @@ impl Streaming {
         })
     }
 
-    /// What the streams of the interface at a place met, in block order.
-    pub fn stream_counts(&self, place: usize) -> StreamCounts
-        requires { place < length self.now.met }
-        ensures { slice_get self.now.met place ≡ Some result }
+    /// What the streams of the interface at an index met, in block order.
+    pub fn stream_counts(&self, index: usize) -> StreamCounts
+        requires { index < length self.now.met }
+        ensures { slice_get self.now.met index ≡ Some result }
     {
-        self.met[place]
+        self.met[index]
     }
 
     /// Whether all that was given is steady: no deviation passed a thousandth, and no stream lost four feedback reports in succession.
@@ -174,7 +174,7 @@ impl Streaming {
             { history = spec.given_at (spec.stream_index w.device.function interface) with_restart_given w.history }) }
     {
         match function.stream_at(interface) {
-            Some(place) => self.steady.restart(place as u8),
+            Some(index) => self.steady.restart(index as u8),
             None => {}
         }
     }
@@ -249,12 +249,12 @@ impl Streaming {
         requires { length function.now.streams ≤ 8 }
         ensures stands { (d : devices.DeviceFields) (w : StreamingWorld) → StreamingStands self.old d w → w.device.function ≡ function.now
             → StreamingStands self.new d (record w {
-              history = spec.given_at (spec.stream_index w.device.function interface) (λ place. with_report_given place lost) w.history;
+              history = spec.given_at (spec.stream_index w.device.function interface) (λ index. with_report_given index lost) w.history;
             }) }
         ensures order { self.new.order ≡ self.old.order }
     {
         match function.stream_at(interface) {
-            Some(place) => self.steady.report(place as u8, lost),
+            Some(index) => self.steady.report(index as u8, lost),
             None => {}
         }
     }
@@ -301,12 +301,12 @@ impl Streaming {
 
     /// What the streams of an interface met; nothing where there is no such interface.
     pub fn met_on(&self, function: &Function, interface: u8) -> StreamCounts
-        ensures met { (met : ℕ → counted.StreamCounts) (place : ℕ) → self.now.met ≡ spec.met_in met function.now
-            → spec.stream_index function.now interface ≡ Some place → result ≡ met interface }
+        ensures met { (met : ℕ → counted.StreamCounts) (index : ℕ) → self.now.met ≡ spec.met_in met function.now
+            → spec.stream_index function.now interface ≡ Some index → result ≡ met interface }
         ensures none { spec.stream_index function.now interface ≡ None → result ≡ spec.nothing_met }
     {
         match function.stream_at(interface) {
-            Some(place) => counts_at(&self.met, place),
+            Some(index) => counts_at(&self.met, index),
             None => nothing_met(),
         }
     }
@@ -320,7 +320,7 @@ impl Streaming {
         functions_are_sound(function);
         interfaces_are_numbered();
         match function.stream_at(interface) {
-            Some(place) => put_at(&mut self.met, place, counts),
+            Some(index) => put_at(&mut self.met, index, counts),
             None => {}
         }
     }
@@ -377,23 +377,23 @@ fn count_some(met: &mut [StreamCounts], found: Ticked)
     }
 }
 
-/// Puts the counts of a stream at its place, where there is such a place; nothing changes where there is none.
-fn put_at(met: &mut [StreamCounts], place: usize, counts: StreamCounts)
-    ensures put { place < length met.old → met.new ≡ set met.old place counts }
-    ensures past { length met.old ≤ place → met.new ≡ met.old }
+/// Puts the counts of a stream at its index, where there is such an index; nothing changes where there is none.
+fn put_at(met: &mut [StreamCounts], index: usize, counts: StreamCounts)
+    ensures put { index < length met.old → met.new ≡ set met.old index counts }
+    ensures past { length met.old ≤ index → met.new ≡ met.old }
 {
-    if place < met.len() {
-        met[place] = counts;
+    if index < met.len() {
+        met[index] = counts;
     }
 }
 
-/// The counts at a place; of nothing met where there is none.
-fn counts_at(met: &[StreamCounts], place: usize) -> StreamCounts
-    ensures there { place < length met.now → slice_get met.now place ≡ Some result }
-    ensures past { length met.now ≤ place → result ≡ spec.nothing_met }
+/// The counts at an index; of nothing met where there is none.
+fn counts_at(met: &[StreamCounts], index: usize) -> StreamCounts
+    ensures there { index < length met.now → slice_get met.now index ≡ Some result }
+    ensures past { length met.now ≤ index → result ≡ spec.nothing_met }
 {
-    if place < met.len() {
-        return met[place];
+    if index < met.len() {
+        return met[index];
     }
     nothing_met()
 }

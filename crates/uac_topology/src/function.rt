@@ -3,7 +3,7 @@ ghost use Rattle.std.specs.Prelude.{◌≡◌, ◌==◌, position};
 ghost use Rattle.std.specs.Option.{option_map};
 ghost use Rattle.uac_entities.specs.EntityInterfaces.{channels_of, entity_by_id};
 ghost use Rattle.uac_topology.specs.Function.{FunctionFields, interface_in};
-ghost use Rattle.uac_topology_rules.specs.Table.{at, place_of};
+ghost use Rattle.uac_topology_rules.specs.Table.{at, index_of};
 
 use std::marker::Model;
 use uac_entities::{Entity, StreamInterface};
@@ -52,7 +52,7 @@ impl Function {
     }
 
     /// The index of the entity with this id, None exactly where no entity has it.
-    #[tactic(auto, unfolding(uac_topology_rules::specs::Table::first_place_of))]
+    #[tactic(auto, unfolding(uac_topology_rules::specs::Table::first_index_of))]
     pub fn find(&self, id: u8) -> Option<usize>
         ensures { result ≡ position (λ e. e.id == id) self.now.entities }
     {
@@ -60,12 +60,12 @@ impl Function {
     }
 
     /// The entity with this id, None exactly where no entity has it.
-    #[tactic(auto, using(crate::proofs::EntitiesByPlace::named_at, crate::proofs::EntitiesByPlace::named_nowhere))]
+    #[tactic(auto, using(crate::proofs::FunctionEntityLemmas::named_at, crate::proofs::FunctionEntityLemmas::named_nowhere))]
     pub fn entity(&self, id: u8) -> Option<&Entity>
         ensures { option_map (λ e. e.now) result ≡ entity_by_id self.now.entities id }
     {
         match self.find(id) {
-            Some(place) => self.entities().get(place),
+            Some(index) => self.entities().get(index),
             None => None,
         }
     }
@@ -73,7 +73,7 @@ impl Function {
     /// The channels that the entity with this id puts out, 0 where no entity has it.
     pub fn channels_of(&self, id: u8) -> u8
         ensures value { result ≡ channels_of self.now.entities id }
-        ensures placed { result ≡ (at self.now.entities (place_of self.now.entities id)).cluster.channels }
+        ensures placed { result ≡ (at self.now.entities (index_of self.now.entities id)).cluster.channels }
     {
         self.table.channels_of(id)
     }

@@ -15,24 +15,24 @@ use Rattle.uac_topology_rules.specs.Links.{signal_links, clock_links}
 use Rattle.uac_topology_rules.specs.Rules.{breaks_u6, breaks_u7}
 use Rattle.uac_topology_rules.specs.RuleFaults.{of_entity, broken_names, broken_walks}
 use Rattle.uac_topology_rules.specs.LinkCycles.{IsFirstRound, HasNoCycle, IsSignalFault, IsClockFault, CyclesAreNamed, WalkRulesNameCycles}
-use Rattle.uac_topology_rules.proofs.FirstPlace.{fault_by, entity_breaks, no_entity_breaks, breaks_none}
-use Rattle.uac_topology_rules.proofs.Sound.{or_none, option_or-none, signal_closed, clock_closed}
+use Rattle.uac_topology_rules.proofs.RuleFaultsLemmas.{fault_by, entity_breaks, no_entity_breaks, breaks_none}
+use Rattle.uac_topology_rules.proofs.LinksLemmas.{or_none, option_or-none, signal_closed, clock_closed}
 
--- the first place below n that passes a test
+-- the first index below n that passes a test
 pub record FirstBelow (test : ℕ → Bool) (n : ℕ) : Type 0 where
-  pub place : ℕ
-  pub inside : place < n
-  pub here : test place ≡ true
-  pub none : (j : ℕ) → j < place → test j ≡ false
+  pub index : ℕ
+  pub inside : index < n
+  pub here : test index ≡ true
+  pub none : (j : ℕ) → j < index → test j ≡ false
 
 first_or_none : (test : ℕ → Bool) (n : ℕ) → FirstBelow test n ⊎ ((j : ℕ) → j < n → test j ≡ false)
 first_or_none test zero = inr (λ j below. absurd (omega arith))
 first_or_none test (suc n) =
     elim (first_or_none test n) [
-      | inl f ↦ inl (record { place = f.place; inside = omega (arith, f.inside); here = f.here; none = f.none })
+      | inl f ↦ inl (record { index = f.index; inside = omega (arith, f.inside); here = f.here; none = f.none })
       | inr none ↦
           elim (cases_Bool (test n)) [
-            | inl here ↦ inl (record { place = n; inside = omega arith; here = here; none = none })
+            | inl here ↦ inl (record { index = n; inside = omega arith; here = here; none = none })
             | inr not ↦
                 inr (λ j below.
                 elim (cases_eq j n) [
@@ -44,10 +44,10 @@ first_or_none test (suc n) =
 
 -- a fault of an entity is that of the first one
 fault_of_first : (rule : ℕ) (es : List Entity) (breaks : List Entity → ℕ → Bool) (fault : TopologyFault) → of_entity rule es breaks ≡ Some fault →
-    (f : FirstBelow (breaks es) (length es)) × (fault ≡ fault_by rule (at es f.place).id false)
+    (f : FirstBelow (breaks es) (length es)) × (fault ≡ fault_by rule (at es f.index).id false)
 fault_of_first rule es breaks fault e =
     elim (first_or_none (breaks es) (length es)) [
-      | inl f ↦ (f, same_Some fault (fault_by rule (at es f.place).id false) (sym e ∙ entity_breaks rule es breaks f.place f.inside f.none f.here))
+      | inl f ↦ (f, same_Some fault (fault_by rule (at es f.index).id false) (sym e ∙ entity_breaks rule es breaks f.index f.inside f.none f.here))
       | inr none ↦ absurd (none-some fault (sym (no_entity_breaks rule es breaks none) ∙ e))
     ]
 
@@ -73,17 +73,17 @@ module _ (rule : ℕ) (es : List Entity) (graph : List (List ℕ)) (breaks : Lis
       let r = fault_of_first rule es breaks fault e in
       let f = r.0 in
       record {
-        place = f.place;
+        index = f.index;
         inside = f.inside;
         named = ap (λ (t : TopologyFault). t.id) r.1;
-        round = round_where_breaks f.place f.inside f.here;
+        round = round_where_breaks f.index f.inside f.here;
         first = λ j below. none_where_holds j (f.none j below);
       }
 
   pub named_first : (fault : TopologyFault) → fault.rule ≡ rule → fault.interface ≡ false → IsFirstRound es graph fault.id → of_entity rule es breaks ≡ Some fault
   named_first fault r i h =
-      entity_breaks rule es breaks h.place h.inside (λ j below. holds_where_none j (omega (arith, h.inside)) (h.first j below)) (breaks_where_round h.place h.round)
-      ∙ ap (λ (n : ℕ). Some (fault_by n (at es h.place).id false)) (sym r)
+      entity_breaks rule es breaks h.index h.inside (λ j below. holds_where_none j (omega (arith, h.inside)) (h.first j below)) (breaks_where_round h.index h.round)
+      ∙ ap (λ (n : ℕ). Some (fault_by n (at es h.index).id false)) (sym r)
       ∙ ap (λ (n : ℕ). Some (fault_by fault.rule n false)) (sym h.named)
       ∙ ap (λ (b : Bool). Some (fault_by fault.rule fault.id b)) (sym i)
 

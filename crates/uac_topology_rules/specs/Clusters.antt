@@ -30,52 +30,52 @@ takes_over kind.Effect = true
 abbrev pub cluster_by : Entity → List ℕ → (ℕ → Cluster) → Cluster
 cluster_by e sources below = if takes_over e.kind then option_map_or below (slice_get sources 0) no_cluster else e.cluster
 
--- one step: from the clusters of the sources to that of the entity at a place
+-- one step: from the clusters of the sources to that of the entity at an index
 unfoldable pub cluster_step : List Entity → (ℕ → Cluster) → ℕ → Cluster
-cluster_step entities below place = cluster_by (at entities place) (links (signal_links entities) place) below
+cluster_step entities below index = cluster_by (at entities index) (links (signal_links entities) index) below
 
 -- the cluster, along fewer than n links
 unfoldable pub cluster_within : ℕ → List Entity → ℕ → Cluster
-cluster_within zero entities place = no_cluster
-cluster_within (suc n) entities place = cluster_step entities (cluster_within n entities) place
+cluster_within zero entities index = no_cluster
+cluster_within (suc n) entities index = cluster_step entities (cluster_within n entities) index
 
--- the cluster of the entity at a place
+-- the cluster of the entity at an index
 unfoldable pub cluster_of : List Entity → ℕ → Cluster
-cluster_of entities place = cluster_within (length entities) entities place
+cluster_of entities index = cluster_within (length entities) entities index
 
 -- the channels of each pin
 unfoldable pub pins : List Entity → ℕ → List ℕ
-pins entities place = map (λ p. (cluster_of entities p).channels) (links (signal_links entities) place)
+pins entities index = map (λ p. (cluster_of entities p).channels) (links (signal_links entities) index)
 
 -- the input channels: those of all pins
 abbrev pub inputs : List Entity → ℕ → ℕ
-inputs entities place = sum (pins entities place)
+inputs entities index = sum (pins entities index)
 
 -- the clocks behind an entity, by those behind its sources
 abbrev pub clocks_by : Entity → List ℕ → (ℕ → List ℕ) → List ℕ
 clocks_by e sources below = if is_input e.kind then e.clock ∷ [] else flat_map below sources
 
--- one step: from the clocks behind the sources to those behind the entity at a place
+-- one step: from the clocks behind the sources to those behind the entity at an index
 unfoldable pub clocks_step : List Entity → (ℕ → List ℕ) → ℕ → List ℕ
-clocks_step entities below place = clocks_by (at entities place) (links (signal_links entities) place) below
+clocks_step entities below index = clocks_by (at entities index) (links (signal_links entities) index) below
 
 -- the clocks of the input terminals to which a walk of fewer than n signal source links leads
 unfoldable pub clocks_within : ℕ → List Entity → ℕ → List ℕ
-clocks_within zero entities place = []
-clocks_within (suc n) entities place = clocks_step entities (clocks_within n entities) place
+clocks_within zero entities index = []
+clocks_within (suc n) entities index = clocks_step entities (clocks_within n entities) index
 
 -- the clocks of the input terminals to which a walk of signal source links leads
 unfoldable pub clocks_of : List Entity → ℕ → List ℕ
-clocks_of entities place = clocks_within (length entities) entities place
+clocks_of entities index = clocks_within (length entities) entities index
 
 -- the entities in block order, each with the cluster that it puts out
 unfoldable pub with_own_clusters : List Entity → List Entity
-with_own_clusters entities = map (λ place. with_cluster (at entities place) (cluster_of entities place))
+with_own_clusters entities = map (λ index. with_cluster (at entities index) (cluster_of entities index))
     (range_with_len 0 (length entities))
 
 -- where no walk of n signal source links leads on, more links change neither the cluster nor the clocks behind
 abbrev pub MoreLinksChangeNothing : Type 0
 MoreLinksChangeNothing =
-    (entities : List Entity) (n place : ℕ) → has_walk (signal_links entities) n place ≡ false → (more : ℕ) →
-    (cluster_within (more + n) entities place ≡ cluster_within n entities place)
-    × (clocks_within (more + n) entities place ≡ clocks_within n entities place)
+    (entities : List Entity) (n index : ℕ) → has_walk (signal_links entities) n index ≡ false → (more : ℕ) →
+    (cluster_within (more + n) entities index ≡ cluster_within n entities index)
+    × (clocks_within (more + n) entities index ≡ clocks_within n entities index)

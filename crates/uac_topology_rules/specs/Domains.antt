@@ -26,8 +26,8 @@ names_new clocks e = is_terminal e.kind && not (list_any (λ c. c == e.clock) cl
 unfoldable pub with_named_clock : List ℕ → Entity → List ℕ
 with_named_clock clocks e = if names_new clocks e then clocks ++ e.clock ∷ [] else clocks
 
--- the domains, and how many clocks the entities up to each place name
+-- the domains, and how many clocks the entities up to each index name
 pub record IsDomains (entities : List Entity) (clocks counts : List ℕ) : Type 0 where
   pub clocked : clocks ≡ domains_of entities
   pub sized : length counts ≡ length entities
-  pub counted : (place : ℕ) → place < length entities → slice_index counts place ≡ length (domains_of (take (place + 1) entities))
+  pub counted : (index : ℕ) → index < length entities → slice_index counts index ≡ length (domains_of (take (index + 1) entities))

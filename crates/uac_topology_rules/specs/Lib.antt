@@ -10,7 +10,7 @@ pub mod RuleFaults
 -- What the laws say besides.
 pub mod LinkCycles
 -- What the contracts below them cite: steps of the code, no part of what is promised.
-pub mod Places
+pub mod Indices
 pub mod RuleNumbers
 pub mod NameRules
 pub mod Walks

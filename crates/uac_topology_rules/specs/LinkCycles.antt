@@ -9,11 +9,11 @@ use Rattle.uac_topology_rules.specs.RuleFaults.{broken_names, broken_walks}
 
 -- the id of the first entity in block order from which links come round
 pub record IsFirstRound (entities : List Entity) (graph : List (List ℕ)) (id : ℕ) : Type 0 where
-  pub place : ℕ
-  pub inside : place < length entities
-  pub named : id ≡ (at entities place).id
-  pub round : ComesRound graph place
-  pub first : (earlier : ℕ) → earlier < place → ComesRound graph earlier → ⊥
+  pub index : ℕ
+  pub inside : index < length entities
+  pub named : id ≡ (at entities index).id
+  pub round : ComesRound graph index
+  pub first : (earlier : ℕ) → earlier < index → ComesRound graph earlier → ⊥
 
 -- neither signal links nor clock links lead from an entity back to it
 pub record HasNoCycle (entities : List Entity) : Type 0 where

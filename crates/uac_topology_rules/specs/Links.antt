@@ -4,7 +4,7 @@ use Rattle.std.specs.Prelude.{ℕ, Bool, true, false, if◌then◌else◌, List,
 use Rattle.uac_entities.specs.declared.entity.Entity.{Entity}
 use Rattle.uac_entities.specs.declared.entity.EntityKind.{EntityKind}
 use Rattle.uac_entities.specs.declared.entity.EntityKind.TheVariants as kind
-use Rattle.uac_topology_rules.specs.Table.{place_of}
+use Rattle.uac_topology_rules.specs.Table.{index_of}
 
 -- 3.13.10 to 3.13.12
 abbrev pub is_clock : EntityKind → Bool
@@ -36,10 +36,10 @@ signal_sources e = if is_clock e.kind then [] else e.sources
 unfoldable pub clock_sources : Entity → List ℕ
 clock_sources e = if is_clock e.kind then e.sources else []
 
--- for each entity, in block order, the places of its signal sources
+-- for each entity, in block order, the indices of its signal sources
 abbrev pub signal_links : List Entity → List (List ℕ)
-signal_links entities = map (λ e. map (place_of entities) (signal_sources e)) entities
+signal_links entities = map (λ e. map (index_of entities) (signal_sources e)) entities
 
--- for each entity, in block order, the places of its clock sources
+-- for each entity, in block order, the indices of its clock sources
 abbrev pub clock_links : List Entity → List (List ℕ)
-clock_links entities = map (λ e. map (place_of entities) (clock_sources e)) entities
+clock_links entities = map (λ e. map (index_of entities) (clock_sources e)) entities

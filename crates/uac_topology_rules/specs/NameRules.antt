@@ -7,17 +7,17 @@ use Rattle.uac_topology_rules.specs.Rules as rules
 
 -- the other rules are none of these
 abbrev pub breaks : Rule → List Entity → ℕ → Bool
-breaks rule.ZeroId entities place = rules.breaks_u1 entities place
-breaks rule.RepeatedId entities place = rules.breaks_u2 entities place
-breaks rule.UnknownSource entities place = rules.breaks_u3 entities place
-breaks rule.SilentSource entities place = rules.breaks_u4 entities place
-breaks rule.UnknownClock entities place = rules.breaks_u5 entities place
-breaks rule.SignalCycle entities place = false
-breaks rule.ClockCycle entities place = false
-breaks rule.WrongCluster entities place = false
-breaks rule.WrongSize entities place = false
-breaks rule.UnequalPins entities place = false
-breaks rule.OtherClock entities place = false
-breaks rule.WrongLink entities place = false
-breaks rule.WrongEndpoints entities place = false
-breaks rule.TooMany entities place = false
+breaks rule.ZeroId entities index = rules.breaks_u1 entities index
+breaks rule.RepeatedId entities index = rules.breaks_u2 entities index
+breaks rule.UnknownSource entities index = rules.breaks_u3 entities index
+breaks rule.SilentSource entities index = rules.breaks_u4 entities index
+breaks rule.UnknownClock entities index = rules.breaks_u5 entities index
+breaks rule.SignalCycle entities index = false
+breaks rule.ClockCycle entities index = false
+breaks rule.WrongCluster entities index = false
+breaks rule.WrongSize entities index = false
+breaks rule.UnequalPins entities index = false
+breaks rule.OtherClock entities index = false
+breaks rule.WrongLink entities index = false
+breaks rule.WrongEndpoints entities index = false
+breaks rule.TooMany entities index = false

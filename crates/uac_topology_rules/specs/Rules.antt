@@ -1,4 +1,4 @@
--- The rules, each a test of the entity, or of the streaming interface, at a place. A test may rely on the rules of
+-- The rules, each a test of the entity, or of the streaming interface, at an index. A test may rely on the rules of
 -- lesser number: it is judged only where they hold.
 use Rattle.std.specs.Prelude.{ℕ, ◌+◌, ◌*◌, ◌/◌, Bool, true, false, ◌==◌, ◌&&◌, ◌||◌, not, nat_lt, if◌then◌else◌, List, Option, Some, None}
 use Rattle.std.specs.Prelude.{length, take, slice_get, is_none, count_ones}
@@ -14,22 +14,22 @@ use Rattle.uac_entities.specs.declared.entity.Entity.{Entity}
 use Rattle.uac_entities.specs.declared.entity.EntityKind.{EntityKind}
 use Rattle.uac_entities.specs.declared.entity.EntityKind.TheVariants as kind
 use Rattle.uac_entities.specs.declared.stream.StreamInterface.{StreamInterface}
-use Rattle.uac_topology_rules.specs.Table.{at, first_place_of, kind_of}
+use Rattle.uac_topology_rules.specs.Table.{at, first_index_of, kind_of}
 use Rattle.uac_topology_rules.specs.Links.{is_clock, is_terminal, signal_sources, clock_sources, signal_links, clock_links}
 use Rattle.uac_topology_rules.specs.Clusters.{cluster_of, pins, inputs, clocks_of}
 use Rattle.uac_topology_rules.specs.Domains.{domains_of, names_new}
 
 -- U1 (Audio Class 2.0, 4.7.2): an id is not 0
 unfoldable pub breaks_u1 : List Entity → ℕ → Bool
-breaks_u1 entities place = (at entities place).id == 0
+breaks_u1 entities index = (at entities index).id == 0
 
 -- U2 (Audio Class 2.0, 3.13): an id is of no earlier entity
 unfoldable pub breaks_u2 : List Entity → ℕ → Bool
-breaks_u2 entities place = list_any (λ e. e.id == (at entities place).id) (take place entities)
+breaks_u2 entities index = list_any (λ e. e.id == (at entities index).id) (take index entities)
 
 -- U3 (Audio Class 2.0, 4.7.2.5 to 4.7.2.10): a signal source is an entity
 unfoldable pub breaks_u3 : List Entity → ℕ → Bool
-breaks_u3 entities place = list_any (λ id. is_none (kind_of entities id)) (signal_sources (at entities place))
+breaks_u3 entities index = list_any (λ id. is_none (kind_of entities id)) (signal_sources (at entities index))
 
 abbrev pub is_output : EntityKind → Bool
 is_output kind.ClockSource = false
@@ -49,7 +49,7 @@ is_silent (Some k) = is_clock k || is_output k
 
 -- U4 (Audio Class 2.0, 3.13.2 and 3.13.10 to 3.13.12): a signal source is neither a clock entity nor an output terminal
 unfoldable pub breaks_u4 : List Entity → ℕ → Bool
-breaks_u4 entities place = list_any (λ id. is_silent (kind_of entities id)) (signal_sources (at entities place))
+breaks_u4 entities index = list_any (λ id. is_silent (kind_of entities id)) (signal_sources (at entities index))
 
 abbrev pub is_some_clock : Option EntityKind → Bool
 is_some_clock None = false
@@ -57,18 +57,18 @@ is_some_clock (Some k) = is_clock k
 
 -- U5 (Audio Class 2.0, 4.7.2.2 to 4.7.2.5): a terminal's clock and a clock entity's sources are clock entities
 unfoldable pub breaks_u5 : List Entity → ℕ → Bool
-breaks_u5 entities place =
-    (is_terminal (at entities place).kind && not (is_some_clock (kind_of entities (at entities place).clock)))
-    || list_any (λ id. not (is_some_clock (kind_of entities id))) (clock_sources (at entities place))
+breaks_u5 entities index =
+    (is_terminal (at entities index).kind && not (is_some_clock (kind_of entities (at entities index).clock)))
+    || list_any (λ id. not (is_some_clock (kind_of entities id))) (clock_sources (at entities index))
 
 -- U6 (profile): signal source links come round from no entity. A walk of as many links as there are entities is the
 -- test; the law `WalkRulesNameCycles` says that it finds this and nothing else
 unfoldable pub breaks_u6 : List Entity → ℕ → Bool
-breaks_u6 entities place = has_walk (signal_links entities) (length entities) place
+breaks_u6 entities index = has_walk (signal_links entities) (length entities) index
 
 -- U7 (profile): the same for clock source links
 unfoldable pub breaks_u7 : List Entity → ℕ → Bool
-breaks_u7 entities place = has_walk (clock_links entities) (length entities) place
+breaks_u7 entities index = has_walk (clock_links entities) (length entities) index
 
 -- an input terminal (Audio Class 2.0, 3.13.1) and a mixer (3.13.3) have a cluster of their own
 abbrev pub has_own_cluster : EntityKind → Bool
@@ -85,8 +85,8 @@ has_own_cluster kind.Effect = false
 -- U8 (Audio Class 2.0, 4.1; profile: at most 32, and all 32 bits count alike): a cluster has channels, and no more
 -- locations than channels
 unfoldable pub breaks_u8 : List Entity → ℕ → Bool
-breaks_u8 entities place =
-    let e = at entities place in
+breaks_u8 entities index =
+    let e = at entities index in
     let c = e.cluster in
     has_own_cluster e.kind && (c.channels == 0 || (nat_lt 32 c.channels || nat_lt c.channels (count_ones c.locations)))
 
@@ -108,10 +108,10 @@ wrong_size kind.Effect bitmap words more = not (words || more)
 -- U9 (Audio Class 2.0, 4.7.2.6 and 4.7.2.8; profile: the effect unit): the bitmap of a mixer has the least number of bytes
 -- for its nodes, a feature has a word for the master and each channel, and an effect has one more at most
 unfoldable pub breaks_u9 : List Entity → ℕ → Bool
-breaks_u9 entities place =
-    let e = at entities place in
-    let channels = (cluster_of entities place).channels in
-    wrong_size e.kind (length e.mix_bits == bytes_for (inputs entities place * channels))
+breaks_u9 entities index =
+    let e = at entities index in
+    let channels = (cluster_of entities index).channels in
+    wrong_size e.kind (length e.mix_bits == bytes_for (inputs entities index * channels))
     (length e.controls == channels + 1) (length e.controls == channels + 2)
 
 abbrev pub is_selector : EntityKind → Bool
@@ -127,15 +127,15 @@ is_selector kind.Effect = false
 
 -- U10 (Audio Class 2.0, 3.13.4 and 4.7.2.7): the pins of a selector have as many channels as its first
 unfoldable pub breaks_u10 : List Entity → ℕ → Bool
-breaks_u10 entities place =
-    is_selector (at entities place).kind
-    && list_any (λ n. not (n == (cluster_of entities place).channels)) (pins entities place)
+breaks_u10 entities index =
+    is_selector (at entities index).kind
+    && list_any (λ n. not (n == (cluster_of entities index).channels)) (pins entities index)
 
 -- U11 (profile): an output terminal has the clock of each input terminal behind it
 unfoldable pub breaks_u11 : List Entity → ℕ → Bool
-breaks_u11 entities place =
-    is_output (at entities place).kind
-    && list_any (λ c. not (c == (at entities place).clock)) (clocks_of entities place)
+breaks_u11 entities index =
+    is_output (at entities index).kind
+    && list_any (λ c. not (c == (at entities index).clock)) (clocks_of entities index)
 
 abbrev pub too_large : EntityKind → Bool → Bool → Bool
 too_large kind.ClockSource channels nodes = false
@@ -148,39 +148,39 @@ too_large kind.Selector channels nodes = channels
 too_large kind.Feature channels nodes = false
 too_large kind.Effect channels nodes = false
 
--- the entity at a place is the terminal that first names the ninth different clock: those before it name eight, none
+-- the entity at an index is the terminal that first names the ninth different clock: those before it name eight, none
 -- of which is its own
 unfoldable pub names_ninth : List Entity → ℕ → Bool
-names_ninth entities place =
-    let before = domains_of (take place entities) in
-    names_new before (at entities place) && length before == 8
+names_ninth entities index =
+    let before = domains_of (take index entities) in
+    names_new before (at entities index) && length before == 8
 
 -- U14 (profile), of an entity: at most 256 nodes of a mixer, at most 256 input channels of a mixer or a selector, and
 -- no ninth clock
 unfoldable pub breaks_u14 : List Entity → ℕ → Bool
-breaks_u14 entities place =
-    let e = at entities place in
-    too_large e.kind (nat_lt 256 (inputs entities place)) (nat_lt 256 (inputs entities place * (cluster_of entities place).channels))
-    || names_ninth entities place
+breaks_u14 entities index =
+    let e = at entities index in
+    too_large e.kind (nat_lt 256 (inputs entities index)) (nat_lt 256 (inputs entities index * (cluster_of entities index).channels))
+    || names_ninth entities index
 
--- the streaming interface at a place
+-- the streaming interface at an index
 unfoldable pub at_stream : {X : Type 0} → (StreamInterface → X) → X → List StreamInterface → ℕ → X
-at_stream f none streams place = option_map_or f (slice_get streams place) none
+at_stream f none streams index = option_map_or f (slice_get streams index) none
 
 abbrev pub is_usb_terminal : Entity → Bool
 is_usb_terminal e = is_terminal e.kind && e.terminal_type == USB_STREAMING
 
 -- the entity with an id is a USB streaming terminal
 unfoldable pub is_usb : List Entity → ℕ → Bool
-is_usb entities id = option_map_or (λ place. is_usb_terminal (at entities place)) (first_place_of entities id) false
+is_usb entities id = option_map_or (λ index. is_usb_terminal (at entities index)) (first_index_of entities id) false
 
 -- U12 (Audio Class 2.0, 4.9.2; profile: one terminal each): a link is to a USB streaming terminal, the settings of an
 -- interface have one link, and no earlier interface has it
 unfoldable pub breaks_u12 : List Entity → List StreamInterface → ℕ → Bool
-breaks_u12 entities streams place =
+breaks_u12 entities streams index =
     at_stream (λ s.
     list_any (λ l. not (is_usb entities l && l == s.terminal)) (links_of s.settings)
-    || (not (s.terminal == 0) && list_any (λ d. d.terminal == s.terminal) (take place streams))) false streams place
+    || (not (s.terminal == 0) && list_any (λ d. d.terminal == s.terminal) (take index streams))) false streams index
 
 -- an isochronous endpoint of this direction, bit 7 of the address being 1 for IN
 abbrev pub is_isochronous_to : Bool → Endpoint → Bool
@@ -205,9 +205,9 @@ is_wrong out a =
 -- U13 (Audio Class 2.0, 4.10; USB 2.0, 9.6.5 and 9.6.6): each setting has as many endpoints as it says, setting 0 has
 -- none, the first carries data in the terminal's direction, the second feedback in the other
 unfoldable pub breaks_u13 : List DeclaredSetting → List StreamInterface → ℕ → Bool
-breaks_u13 all streams place =
-    at_stream (λ s. list_any (λ a. a.interface == s.number && is_wrong s.out a) all) false streams place
+breaks_u13 all streams index =
+    at_stream (λ s. list_any (λ a. a.interface == s.number && is_wrong s.out a) all) false streams index
 
 -- U14 (profile), of a streaming interface: at most eight, and at most 16 settings of each
 unfoldable pub exceeds : List StreamInterface → ℕ → Bool
-exceeds streams place = nat_lt 7 place || at_stream (λ s. nat_lt 16 (length s.settings)) false streams place
+exceeds streams index = nat_lt 7 index || at_stream (λ s. nat_lt 16 (length s.settings)) false streams index

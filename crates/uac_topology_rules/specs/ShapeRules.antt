@@ -7,17 +7,17 @@ use Rattle.uac_topology_rules.specs.Rules as rules
 
 -- the other rules are none of these
 abbrev pub breaks : Rule → List Entity → ℕ → Bool
-breaks rule.ZeroId entities place = false
-breaks rule.RepeatedId entities place = false
-breaks rule.UnknownSource entities place = false
-breaks rule.SilentSource entities place = false
-breaks rule.UnknownClock entities place = false
-breaks rule.SignalCycle entities place = false
-breaks rule.ClockCycle entities place = false
-breaks rule.WrongCluster entities place = rules.breaks_u8 entities place
-breaks rule.WrongSize entities place = rules.breaks_u9 entities place
-breaks rule.UnequalPins entities place = rules.breaks_u10 entities place
-breaks rule.OtherClock entities place = rules.breaks_u11 entities place
-breaks rule.WrongLink entities place = false
-breaks rule.WrongEndpoints entities place = false
-breaks rule.TooMany entities place = false
+breaks rule.ZeroId entities index = false
+breaks rule.RepeatedId entities index = false
+breaks rule.UnknownSource entities index = false
+breaks rule.SilentSource entities index = false
+breaks rule.UnknownClock entities index = false
+breaks rule.SignalCycle entities index = false
+breaks rule.ClockCycle entities index = false
+breaks rule.WrongCluster entities index = rules.breaks_u8 entities index
+breaks rule.WrongSize entities index = rules.breaks_u9 entities index
+breaks rule.UnequalPins entities index = rules.breaks_u10 entities index
+breaks rule.OtherClock entities index = rules.breaks_u11 entities index
+breaks rule.WrongLink entities index = false
+breaks rule.WrongEndpoints entities index = false
+breaks rule.TooMany entities index = false

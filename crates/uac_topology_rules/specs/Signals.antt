@@ -13,7 +13,7 @@ use Rattle.uac_topology_rules.specs.Behind.{Summarizes}
 
 -- from no entity a walk of signal source links goes on for ever
 abbrev pub IsAcyclic : List Entity → Type 0
-IsAcyclic entities = (place : ℕ) → place < length entities → has_walk (signal_links entities) (length entities) place ≡ false
+IsAcyclic entities = (index : ℕ) → index < length entities → has_walk (signal_links entities) (length entities) index ≡ false
 
 -- the signal links, with an order of the entities in which sources stand first
 pub record IsWalkable (entities : List Entity) (links : List (List ℕ)) (order : List ℕ) : Type 0 where
@@ -24,12 +24,12 @@ pub record IsWalkable (entities : List Entity) (links : List (List ℕ)) (order 
 -- the cluster of each entity
 pub record AreClusters (entities : List Entity) (clusters : List Cluster) : Type 0 where
   pub sized : length clusters ≡ length entities
-  pub found : (place : ℕ) → place < length entities → slice_index_or clusters place no_cluster ≡ cluster_of entities place
+  pub found : (index : ℕ) → index < length entities → slice_index_or clusters index no_cluster ≡ cluster_of entities index
 
 -- what tells of the clocks behind each entity
 pub record AreClocks (entities : List Entity) (list : List Behind) : Type 0 where
   pub sized : length list ≡ length entities
-  pub told : (place : ℕ) → place < length entities → Summarizes (slice_index_or list place clocks.Nothing) (clocks_of entities place)
+  pub told : (index : ℕ) → index < length entities → Summarizes (slice_index_or list index clocks.Nothing) (clocks_of entities index)
 
 -- the clusters of the first n entities of the order
 pub record HasClusters (entities : List Entity) (order : List ℕ) (n : ℕ) (clusters : List Cluster) : Type 0 where

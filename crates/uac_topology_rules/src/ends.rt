@@ -58,8 +58,8 @@ fn judge(
 ) -> Option<TopologyFault>
     ensures { result ≡ of_interface (number rule) streams.now (ending.breaks rule table.now all.now) }
 {
-    for (place, stream) in streams.iter().enumerate() {
-        if breaks(rule, table, all, streams, place) {
+    for (index, stream) in streams.iter().enumerate() {
+        if breaks(rule, table, all, streams, index) {
             return Some(TopologyFault {
                 rule: rule.number(),
                 id: stream.number,
@@ -75,15 +75,15 @@ fn breaks(
     table: &EntityTable,
     all: &[DeclaredSetting],
     streams: &[StreamInterface],
-    place: usize,
+    index: usize,
 ) -> bool
-    requires { place < length streams.now }
-    ensures { result ≡ ending.breaks rule table.now all.now streams.now place }
+    requires { index < length streams.now }
+    ensures { result ≡ ending.breaks rule table.now all.now streams.now index }
 {
     match rule {
-        Rule::WrongLink => breaks_u12(table, streams, place),
-        Rule::WrongEndpoints => breaks_u13(all, streams, place),
-        Rule::TooMany => exceeds(streams, place),
+        Rule::WrongLink => breaks_u12(table, streams, index),
+        Rule::WrongEndpoints => breaks_u13(all, streams, index),
+        Rule::TooMany => exceeds(streams, index),
         Rule::ZeroId
         | Rule::RepeatedId
         | Rule::UnknownSource
@@ -98,12 +98,12 @@ fn breaks(
     }
 }
 
-fn breaks_u12(table: &EntityTable, streams: &[StreamInterface], place: usize) -> bool
-    requires { place < length streams.now }
-    ensures { result ≡ rules.breaks_u12 table.now streams.now place }
+fn breaks_u12(table: &EntityTable, streams: &[StreamInterface], index: usize) -> bool
+    requires { index < length streams.now }
+    ensures { result ≡ rules.breaks_u12 table.now streams.now index }
 {
-    let earlier = &streams[..place];
-    is_wrongly_linked(table, earlier, &streams[place])
+    let earlier = &streams[..index];
+    is_wrongly_linked(table, earlier, &streams[index])
 }
 
 // The links of the interface are not to one USB streaming terminal, or an earlier one has it.
@@ -146,7 +146,7 @@ fn is_usb(table: &EntityTable, id: u8) -> bool
     ensures { result ≡ rules.is_usb table.now id }
 {
     match table.find(id) {
-        Some(place) => is_usb_terminal(table, place),
+        Some(index) => is_usb_terminal(table, index),
         None => false,
     }
 }
@@ -157,11 +157,11 @@ fn has_terminal(streams: &[StreamInterface], terminal: u8) -> bool
     streams.iter().any(|stream| stream.terminal == terminal)
 }
 
-fn breaks_u13(all: &[DeclaredSetting], streams: &[StreamInterface], place: usize) -> bool
-    requires { place < length streams.now }
-    ensures { result ≡ rules.breaks_u13 all.now streams.now place }
+fn breaks_u13(all: &[DeclaredSetting], streams: &[StreamInterface], index: usize) -> bool
+    requires { index < length streams.now }
+    ensures { result ≡ rules.breaks_u13 all.now streams.now index }
 {
-    let stream = &streams[place];
+    let stream = &streams[index];
     has_wrong_endpoints(all, stream.number, stream.out)
 }
 
@@ -226,11 +226,11 @@ fn goes(out: bool, address: u8) -> bool
     if out { address < 128 } else { address >= 128 }
 }
 
-fn exceeds(streams: &[StreamInterface], place: usize) -> bool
-    requires { place < length streams.now }
-    ensures { result ≡ rules.exceeds streams.now place }
+fn exceeds(streams: &[StreamInterface], index: usize) -> bool
+    requires { index < length streams.now }
+    ensures { result ≡ rules.exceeds streams.now index }
 {
-    place >= MOST_STREAMS || has_too_many(&streams[place])
+    index >= MOST_STREAMS || has_too_many(&streams[index])
 }
 
 fn has_too_many(stream: &StreamInterface) -> bool
@@ -239,10 +239,10 @@ fn has_too_many(stream: &StreamInterface) -> bool
     stream.settings.as_slice().len() > MOST_SETTINGS
 }
 
-fn is_usb_terminal(table: &EntityTable, place: usize) -> bool
-    requires { place < length table.now }
-    ensures { result ≡ rules.is_usb_terminal (at table.now place) }
+fn is_usb_terminal(table: &EntityTable, index: usize) -> bool
+    requires { index < length table.now }
+    ensures { result ≡ rules.is_usb_terminal (at table.now index) }
 {
-    let entity = table.at(place);
+    let entity = table.at(index);
     is_terminal(entity.kind) && entity.terminal_type == USB_STREAMING
 }

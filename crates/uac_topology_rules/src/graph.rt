@@ -1,6 +1,6 @@
-// The links between entities, as graphs of places.
+// The links between entities, as graphs of indices.
 ghost use Rattle.std.specs.Prelude.{◌≡◌, IfOk, map};
-ghost use Rattle.uac_topology_rules.specs.Table.{place_of};
+ghost use Rattle.uac_topology_rules.specs.Table.{index_of};
 ghost use Rattle.uac_topology_rules.specs.Links.{signal_links, clock_links};
 
 use crate::names::{clock_sources, signal_sources};
@@ -9,7 +9,7 @@ use std::alloc::Global;
 use uac_descriptor::NoMemory;
 use uac_walk::Links;
 
-/// For each entity the places of its signal sources.
+/// For each entity the indices of its signal sources.
 pub(crate) fn signal_graph(alloc: Global, table: &EntityTable) -> Result<Vec<Links>, NoMemory>
     ensures { IfOk result (λ graph. graph.items ≡ signal_links table.now) }
 {
@@ -21,7 +21,7 @@ pub(crate) fn signal_graph(alloc: Global, table: &EntityTable) -> Result<Vec<Lin
     Ok(graph)
 }
 
-/// For each entity the places of its clock sources.
+/// For each entity the indices of its clock sources.
 pub(crate) fn clock_graph(alloc: Global, table: &EntityTable) -> Result<Vec<Links>, NoMemory>
     ensures { IfOk result (λ graph. graph.items ≡ clock_links table.now) }
 {
@@ -33,13 +33,13 @@ pub(crate) fn clock_graph(alloc: Global, table: &EntityTable) -> Result<Vec<Link
     Ok(graph)
 }
 
-// The places of the entities with these ids.
+// The indices of the entities with these ids.
 fn links_to(alloc: Global, table: &EntityTable, ids: &[u8]) -> Result<Links, NoMemory>
-    ensures { IfOk result (λ links. links ≡ map (place_of table.now) ids.now) }
+    ensures { IfOk result (λ links. links ≡ map (index_of table.now) ids.now) }
 {
     let mut links = Links::new(alloc);
     for id in ids {
-        links.push(table.place_of(*id))?;
+        links.push(table.index_of(*id))?;
     }
     Ok(links)
 }

@@ -71,64 +71,64 @@ impl Known {
         table.with_clusters(clusters.as_slice())
     }
 
-    /// The entities by their places and ids.
+    /// The entities by their indices and ids.
     pub fn table(&self) -> &EntityTable
         ensures { result.now ≡ self.now }
     {
         &self.table
     }
 
-    /// The cluster that the entity at a place puts out.
-    pub fn cluster(&self, place: usize) -> Cluster
-        requires { place < length self.now }
-        ensures { result ≡ spec.cluster_of self.now place }
+    /// The cluster that the entity at an index puts out.
+    pub fn cluster(&self, index: usize) -> Cluster
+        requires { index < length self.now }
+        ensures { result ≡ spec.cluster_of self.now index }
     {
-        self.clusters[place]
+        self.clusters[index]
     }
 
-    /// The channels that the entity at a place puts out.
-    pub(crate) fn channels(&self, place: usize) -> u8
-        requires { place < length self.now }
-        ensures { result ≡ (spec.cluster_of self.now place).channels }
+    /// The channels that the entity at an index puts out.
+    pub(crate) fn channels(&self, index: usize) -> u8
+        requires { index < length self.now }
+        ensures { result ≡ (spec.cluster_of self.now index).channels }
     {
-        self.cluster(place).channels
+        self.cluster(index).channels
     }
 
-    /// The entity at a place, as the blocks describe it.
-    pub(crate) fn at(&self, place: usize) -> &Entity
-        requires { place < length self.now }
-        ensures { result.now ≡ at self.now place }
+    /// The entity at an index, as the blocks describe it.
+    pub(crate) fn at(&self, index: usize) -> &Entity
+        requires { index < length self.now }
+        ensures { result.now ≡ at self.now index }
     {
-        self.table.at(place)
+        self.table.at(index)
     }
 
-    /// The channels of all pins of the entity at a place.
-    pub(crate) fn inputs(&self, place: usize) -> u128
-        requires { place < length self.now }
-        ensures value { result ≡ spec.inputs self.now place }
+    /// The channels of all pins of the entity at an index.
+    pub(crate) fn inputs(&self, index: usize) -> u128
+        requires { index < length self.now }
+        ensures value { result ≡ spec.inputs self.now index }
         ensures small { result < 2 ^ 72 }
     {
-        inputs_of(self.links[place].as_slice(), self.clusters.as_slice())
+        inputs_of(self.links[index].as_slice(), self.clusters.as_slice())
     }
 
-    /// Whether a pin of the entity at a place has another number of channels than this.
-    pub(crate) fn pins_differ(&self, place: usize, channels: u8) -> bool
-        requires { place < length self.now }
-        ensures { result ≡ list_any (λ n. not (n == channels)) (spec.pins self.now place) }
+    /// Whether a pin of the entity at an index has another number of channels than this.
+    pub(crate) fn pins_differ(&self, index: usize, channels: u8) -> bool
+        requires { index < length self.now }
+        ensures { result ≡ list_any (λ n. not (n == channels)) (spec.pins self.now index) }
     {
         channels_differ(
-            self.links[place].as_slice(),
+            self.links[index].as_slice(),
             self.clusters.as_slice(),
             channels,
         )
     }
 
-    /// Whether an input terminal behind the entity at a place has another clock than this.
-    pub(crate) fn clocks_differ(&self, place: usize, clock: u8) -> bool
-        requires { place < length self.now }
-        ensures { result ≡ list_any (λ c. not (c == clock)) (spec.clocks_of self.now place) }
+    /// Whether an input terminal behind the entity at an index has another clock than this.
+    pub(crate) fn clocks_differ(&self, index: usize, clock: u8) -> bool
+        requires { index < length self.now }
+        ensures { result ≡ list_any (λ c. not (c == clock)) (spec.clocks_of self.now index) }
     {
-        differs(self.clocks[place], clock)
+        differs(self.clocks[index], clock)
     }
 }
 
@@ -139,8 +139,8 @@ fn inputs_of(sources: &[usize], clusters: &[Cluster]) -> u128
     ensures value { result ≡ sum (map (λ p. (slice_index_or clusters.now p no_cluster).channels) sources.now) }
 {
     let mut total: u128 = 0;
-    for place in sources {
-        total += u128::from(clusters[*place].channels);
+    for index in sources {
+        total += u128::from(clusters[*index].channels);
     }
     total
 }
@@ -150,8 +150,8 @@ fn channels_differ(sources: &[usize], clusters: &[Cluster], channels: u8) -> boo
     requires { (k : ℕ) → k < length sources.now → slice_index sources.now k < length clusters.now }
     ensures { result ≡ list_any (λ n. not (n == channels)) (map (λ p. (slice_index_or clusters.now p no_cluster).channels) sources.now) }
 {
-    for place in sources {
-        if clusters[*place].channels != channels {
+    for index in sources {
+        if clusters[*index].channels != channels {
             return true;
         }
     }

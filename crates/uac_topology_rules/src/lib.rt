@@ -5,7 +5,7 @@
 mod rule;
 /// A broken rule, with who breaks it.
 mod fault;
-/// The entities by their place and by their id.
+/// The entities by their index and by their id.
 mod table;
 
 /// What kind an entity is of.
@@ -14,7 +14,7 @@ mod kinds;
 /// The rules on what ids name, U1 to U5.
 mod names;
 
-/// The links between entities, as graphs of places.
+/// The links between entities, as graphs of indices.
 mod graph;
 /// The rules on walks, U6 and U7.
 mod walks;

@@ -38,8 +38,8 @@ pub fn names_fault(table: &EntityTable) -> Option<TopologyFault>
 fn judge(rule: Rule, table: &EntityTable) -> Option<TopologyFault>
     ensures { result ≡ of_entity (number rule) table.now (naming.breaks rule) }
 {
-    for (place, entity) in table.as_slice().iter().enumerate() {
-        if breaks(rule, table, place) {
+    for (index, entity) in table.as_slice().iter().enumerate() {
+        if breaks(rule, table, index) {
             return Some(TopologyFault {
                 rule: rule.number(),
                 id: entity.id,
@@ -50,16 +50,16 @@ fn judge(rule: Rule, table: &EntityTable) -> Option<TopologyFault>
     None
 }
 
-fn breaks(rule: Rule, table: &EntityTable, place: usize) -> bool
-    requires { place < length table.now }
-    ensures { result ≡ naming.breaks rule table.now place }
+fn breaks(rule: Rule, table: &EntityTable, index: usize) -> bool
+    requires { index < length table.now }
+    ensures { result ≡ naming.breaks rule table.now index }
 {
     match rule {
-        Rule::ZeroId => breaks_u1(table, place),
-        Rule::RepeatedId => breaks_u2(table, place),
-        Rule::UnknownSource => breaks_u3(table, place),
-        Rule::SilentSource => breaks_u4(table, place),
-        Rule::UnknownClock => breaks_u5(table, place),
+        Rule::ZeroId => breaks_u1(table, index),
+        Rule::RepeatedId => breaks_u2(table, index),
+        Rule::UnknownSource => breaks_u3(table, index),
+        Rule::SilentSource => breaks_u4(table, index),
+        Rule::UnknownClock => breaks_u5(table, index),
         Rule::SignalCycle
         | Rule::ClockCycle
         | Rule::WrongCluster
@@ -73,46 +73,46 @@ fn breaks(rule: Rule, table: &EntityTable, place: usize) -> bool
 }
 
 #[tactic(auto, unfolding(crate::specs::Rules::breaks_u1))]
-fn breaks_u1(table: &EntityTable, place: usize) -> bool
-    requires { place < length table.now }
-    ensures { result ≡ rules.breaks_u1 table.now place }
+fn breaks_u1(table: &EntityTable, index: usize) -> bool
+    requires { index < length table.now }
+    ensures { result ≡ rules.breaks_u1 table.now index }
 {
-    table.at(place).id == 0
+    table.at(index).id == 0
 }
 
-fn breaks_u2(table: &EntityTable, place: usize) -> bool
-    requires { place < length table.now }
-    ensures { result ≡ rules.breaks_u2 table.now place }
+fn breaks_u2(table: &EntityTable, index: usize) -> bool
+    requires { index < length table.now }
+    ensures { result ≡ rules.breaks_u2 table.now index }
 {
-    table.place_of(table.at(place).id) < place
+    table.index_of(table.at(index).id) < index
 }
 
 #[tactic(auto, unfolding(crate::specs::Rules::breaks_u3))]
-fn breaks_u3(table: &EntityTable, place: usize) -> bool
-    requires { place < length table.now }
-    ensures { result ≡ rules.breaks_u3 table.now place }
+fn breaks_u3(table: &EntityTable, index: usize) -> bool
+    requires { index < length table.now }
+    ensures { result ≡ rules.breaks_u3 table.now index }
 {
-    signal_sources(table.at(place))
+    signal_sources(table.at(index))
         .iter()
         .any(|id| table.kind_of(*id).is_none())
 }
 
 #[tactic(auto, unfolding(crate::specs::Rules::breaks_u4))]
-fn breaks_u4(table: &EntityTable, place: usize) -> bool
-    requires { place < length table.now }
-    ensures { result ≡ rules.breaks_u4 table.now place }
+fn breaks_u4(table: &EntityTable, index: usize) -> bool
+    requires { index < length table.now }
+    ensures { result ≡ rules.breaks_u4 table.now index }
 {
-    signal_sources(table.at(place))
+    signal_sources(table.at(index))
         .iter()
         .any(|id| is_silent(table.kind_of(*id)))
 }
 
 #[tactic(auto, unfolding(crate::specs::Rules::breaks_u5))]
-fn breaks_u5(table: &EntityTable, place: usize) -> bool
-    requires { place < length table.now }
-    ensures { result ≡ rules.breaks_u5 table.now place }
+fn breaks_u5(table: &EntityTable, index: usize) -> bool
+    requires { index < length table.now }
+    ensures { result ≡ rules.breaks_u5 table.now index }
 {
-    let entity = table.at(place);
+    let entity = table.at(index);
     lacks_clock(table, entity) || names_no_clock(table, clock_sources(entity))
 }
 

@@ -14,14 +14,14 @@ use crate::known::Known;
 use crate::rule::Rule;
 use uac_entities::EntityKind;
 
-/// The most channels of a cluster, input channels and nodes of a unit, and clocks of a function (profile).
+/// The most channels of a cluster, input channels and nodes of a unit, and clock domains of a function (profile).
 const MOST_CHANNELS: u8 = 32;
 
 const MOST_INPUTS: u128 = 256;
 
 const MOST_NODES: u128 = 256;
 
-const MOST_CLOCKS: usize = 8;
+const MOST_DOMAINS: usize = 8;
 
 /// The first fault by the rules U8 to U11.
 #[tactic(auto, unfolding(crate::specs::RuleFaults::broken_shapes))]
@@ -44,8 +44,8 @@ pub fn shapes_fault(known: &Known) -> Option<TopologyFault>
 fn judge(rule: Rule, known: &Known) -> Option<TopologyFault>
     ensures { result ≡ of_entity (number rule) known.now (shaping.breaks rule) }
 {
-    for (place, entity) in known.table().as_slice().iter().enumerate() {
-        if breaks(rule, known, place) {
+    for (index, entity) in known.table().as_slice().iter().enumerate() {
+        if breaks(rule, known, index) {
             return Some(TopologyFault {
                 rule: rule.number(),
                 id: entity.id,
@@ -61,8 +61,8 @@ pub fn entity_limit(known: &Known, domains: &Domains) -> Option<TopologyFault>
     requires { IsDomains known.now domains.now.clocks.items domains.now.counts.items }
     ensures { result ≡ of_entity 14 known.now rules.breaks_u14 }
 {
-    for (place, entity) in known.table().as_slice().iter().enumerate() {
-        if breaks_u14(known, domains, place) {
+    for (index, entity) in known.table().as_slice().iter().enumerate() {
+        if breaks_u14(known, domains, index) {
             return Some(TopologyFault {
                 rule: Rule::TooMany.number(),
                 id: entity.id,
@@ -73,15 +73,15 @@ pub fn entity_limit(known: &Known, domains: &Domains) -> Option<TopologyFault>
     None
 }
 
-fn breaks(rule: Rule, known: &Known, place: usize) -> bool
-    requires { place < length known.now }
-    ensures { result ≡ shaping.breaks rule known.now place }
+fn breaks(rule: Rule, known: &Known, index: usize) -> bool
+    requires { index < length known.now }
+    ensures { result ≡ shaping.breaks rule known.now index }
 {
     match rule {
-        Rule::WrongCluster => breaks_u8(known, place),
-        Rule::WrongSize => breaks_u9(known, place),
-        Rule::UnequalPins => breaks_u10(known, place),
-        Rule::OtherClock => breaks_u11(known, place),
+        Rule::WrongCluster => breaks_u8(known, index),
+        Rule::WrongSize => breaks_u9(known, index),
+        Rule::UnequalPins => breaks_u10(known, index),
+        Rule::OtherClock => breaks_u11(known, index),
         Rule::ZeroId
         | Rule::RepeatedId
         | Rule::UnknownSource
@@ -96,11 +96,11 @@ fn breaks(rule: Rule, known: &Known, place: usize) -> bool
 }
 
 #[tactic(auto, unfolding(crate::specs::Rules::breaks_u8))]
-fn breaks_u8(known: &Known, place: usize) -> bool
-    requires { place < length known.now }
-    ensures { result ≡ rules.breaks_u8 known.now place }
+fn breaks_u8(known: &Known, index: usize) -> bool
+    requires { index < length known.now }
+    ensures { result ≡ rules.breaks_u8 known.now index }
 {
-    let entity = known.at(place);
+    let entity = known.at(index);
     let cluster = entity.cluster;
     let locations = cluster.locations.count_ones();
     has_own_cluster(entity.kind)
@@ -109,13 +109,13 @@ fn breaks_u8(known: &Known, place: usize) -> bool
 }
 
 #[tactic(auto, unfolding(crate::specs::Rules::breaks_u9))]
-fn breaks_u9(known: &Known, place: usize) -> bool
-    requires { place < length known.now }
-    ensures { result ≡ rules.breaks_u9 known.now place }
+fn breaks_u9(known: &Known, index: usize) -> bool
+    requires { index < length known.now }
+    ensures { result ≡ rules.breaks_u9 known.now index }
 {
-    let entity = known.at(place);
-    let channels = known.channels(place);
-    let inputs = known.inputs(place);
+    let entity = known.at(index);
+    let channels = known.channels(index);
+    let inputs = known.inputs(index);
     let nodes = inputs * u128::from(channels);
     let words = entity.controls.as_slice().len() as u128;
     wrong_size(
@@ -143,42 +143,42 @@ fn wrong_size(kind: EntityKind, bitmap: bool, words: bool, more: bool) -> bool
 }
 
 #[tactic(auto, unfolding(crate::specs::Rules::breaks_u10))]
-fn breaks_u10(known: &Known, place: usize) -> bool
-    requires { place < length known.now }
-    ensures { result ≡ rules.breaks_u10 known.now place }
+fn breaks_u10(known: &Known, index: usize) -> bool
+    requires { index < length known.now }
+    ensures { result ≡ rules.breaks_u10 known.now index }
 {
-    let channels = known.channels(place);
-    is_selector(known.at(place).kind) && known.pins_differ(place, channels)
+    let channels = known.channels(index);
+    is_selector(known.at(index).kind) && known.pins_differ(index, channels)
 }
 
 #[tactic(auto, unfolding(crate::specs::Rules::breaks_u11))]
-fn breaks_u11(known: &Known, place: usize) -> bool
-    requires { place < length known.now }
-    ensures { result ≡ rules.breaks_u11 known.now place }
+fn breaks_u11(known: &Known, index: usize) -> bool
+    requires { index < length known.now }
+    ensures { result ≡ rules.breaks_u11 known.now index }
 {
-    let entity = known.at(place);
-    is_output(entity.kind) && known.clocks_differ(place, entity.clock)
+    let entity = known.at(index);
+    is_output(entity.kind) && known.clocks_differ(index, entity.clock)
 }
 
 #[tactic(auto, unfolding(crate::specs::Rules::breaks_u14))]
-fn breaks_u14(known: &Known, domains: &Domains, place: usize) -> bool
-    requires inside { place < length known.now }
+fn breaks_u14(known: &Known, domains: &Domains, index: usize) -> bool
+    requires inside { index < length known.now }
     requires counted { IsDomains known.now domains.now.clocks.items domains.now.counts.items }
-    ensures { result ≡ rules.breaks_u14 known.now place }
+    ensures { result ≡ rules.breaks_u14 known.now index }
 {
-    let entity = known.at(place);
-    let inputs = known.inputs(place);
-    let nodes = inputs * u128::from(known.channels(place));
+    let entity = known.at(index);
+    let inputs = known.inputs(index);
+    let nodes = inputs * u128::from(known.channels(index));
     too_large(entity.kind, inputs > MOST_INPUTS, nodes > MOST_NODES)
-        || passes_limit(&domains.counts, place)
+        || passes_limit(&domains.counts, index)
 }
 
-// Whether the clocks named before the place are as many as there may be, and with it there is one more.
-fn passes_limit(counts: &[usize], place: usize) -> bool
-    requires { place < length counts.now }
-    ensures { result ≡ (nat_lt 0 place && (slice_index counts.now (place - 1) == 8 && nat_lt 8 (slice_index counts.now place))) }
+// Whether the domains before the index are as many as there may be, and with it there is one more.
+fn passes_limit(counts: &[usize], index: usize) -> bool
+    requires { index < length counts.now }
+    ensures { result ≡ (nat_lt 0 index && (slice_index counts.now (index - 1) == 8 && nat_lt 8 (slice_index counts.now index))) }
 {
-    place > 0 && (counts[place - 1] == MOST_CLOCKS && counts[place] > MOST_CLOCKS)
+    index > 0 && (counts[index - 1] == MOST_DOMAINS && counts[index] > MOST_DOMAINS)
 }
 
 fn too_large(kind: EntityKind, channels: bool, nodes: bool) -> bool

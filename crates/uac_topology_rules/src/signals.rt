@@ -44,13 +44,13 @@ pub(crate) fn clusters_of(
     ensures { IfOk result (λ clusters. AreClusters table.now clusters.items) }
 {
     let mut clusters = no_clusters(alloc, links.len())?;
-    for place in order {
+    for index in order {
         let cluster = cluster_by(
-            table.at(*place),
-            links[*place].as_slice(),
+            table.at(*index),
+            links[*index].as_slice(),
             clusters.as_slice(),
         );
-        clusters[*place] = cluster;
+        clusters[*index] = cluster;
     }
     Ok(clusters)
 }
@@ -76,15 +76,15 @@ fn cluster_by(entity: &Entity, sources: &[usize], clusters: &[Cluster]) -> Clust
     }
 }
 
-// The cluster at a place, that of no channels where there is none.
-fn cluster_at(clusters: &[Cluster], place: Option<usize>) -> Cluster
-    ensures { result ≡ option_map_or (λ p. slice_index_or clusters.now p no_cluster) place no_cluster }
+// The cluster at an index, that of no channels where there is none.
+fn cluster_at(clusters: &[Cluster], index: Option<usize>) -> Cluster
+    ensures { result ≡ option_map_or (λ p. slice_index_or clusters.now p no_cluster) index no_cluster }
 {
-    let Some(place) = place else {
+    let Some(index) = index else {
         return NO_CLUSTER;
     };
-    if place < clusters.len() {
-        clusters[place]
+    if index < clusters.len() {
+        clusters[index]
     } else {
         NO_CLUSTER
     }
@@ -117,9 +117,9 @@ pub(crate) fn clocks_of(
     ensures { IfOk result (λ list. AreClocks table.now list.items) }
 {
     let mut list = no_clocks(alloc, links.len())?;
-    for place in order {
-        let behind = clocks_by(table.at(*place), links[*place].as_slice(), list.as_slice());
-        list[*place] = behind;
+    for index in order {
+        let behind = clocks_by(table.at(*index), links[*index].as_slice(), list.as_slice());
+        list[*index] = behind;
     }
     Ok(list)
 }
@@ -145,8 +145,8 @@ fn clocks_by(entity: &Entity, sources: &[usize], list: &[Behind]) -> Behind
         return Behind::One(entity.clock);
     }
     let mut behind = Behind::Nothing;
-    for place in sources {
-        behind = behind_both(behind, list[*place]);
+    for index in sources {
+        behind = behind_both(behind, list[*index]);
     }
     behind
 }

@@ -1,9 +1,9 @@
-// The entities by their place and by their id.
+// The entities by their index and by their id.
 ghost use Rattle.std.specs.Prelude.{◌≡◌, ◌<◌, ◌==◌, IfOk, OnOk, length, take, map};
 ghost use Rattle.std.specs.Option.{option_map};
 ghost use Rattle.uac_entities.specs.EntityInterfaces.{channels_of};
 ghost use Rattle.uac_topology_rules.specs.Table as spec;
-ghost use Rattle.uac_topology_rules.specs.Places.{IsTable};
+ghost use Rattle.uac_topology_rules.specs.Indices.{IsTable};
 
 use indexmap::IndexMap;
 use std::alloc::Global;
@@ -15,19 +15,19 @@ use uac_entities::{Cluster, Entity, EntityKind};
 #[derive(Drop)]
 pub struct EntityTable {
     entities: Vec<Entity>,
-    places: IndexMap<u8, usize>,
+    indices: IndexMap<u8, usize>,
 }
 
 impl Model for EntityTable {
     ghost use Rattle.std.specs.Prelude.{List};
     ghost use Rattle.uac_entities.specs.declared.entity.Entity.{Entity};
-    ghost use Rattle.uac_topology_rules.specs.Places.{IsTable};
+    ghost use Rattle.uac_topology_rules.specs.Indices.{IsTable};
 
     ghost Value = { List Entity };
 
     ghost view = { λ t. t.entities.items };
 
-    ghost invariant = { λ t. IsTable t.entities.items t.places };
+    ghost invariant = { λ t. IsTable t.entities.items t.indices };
 }
 
 impl EntityTable {
@@ -35,8 +35,8 @@ impl EntityTable {
     pub fn new(alloc: Global, entities: Vec<Entity>) -> Result<EntityTable, NoMemory>
         ensures { IfOk result (λ table. table ≡ entities.items) }
     {
-        let places = places_of(alloc, entities.as_slice())?;
-        Ok(EntityTable { entities, places })
+        let indices = indices_of(alloc, entities.as_slice())?;
+        Ok(EntityTable { entities, indices })
     }
 
     /// The entities, lent, in block order.
@@ -46,27 +46,27 @@ impl EntityTable {
         self.entities.as_slice()
     }
 
-    /// The entity at a place.
-    pub fn at(&self, place: usize) -> &Entity
-        requires { place < length self.now }
-        ensures { result.now ≡ spec.at self.now place }
+    /// The entity at an index.
+    pub fn at(&self, index: usize) -> &Entity
+        requires { index < length self.now }
+        ensures { result.now ≡ spec.at self.now index }
     {
-        &self.entities[place]
+        &self.entities[index]
     }
 
-    /// The place of the first entity with this id, None exactly where no entity has it.
+    /// The index of the first entity with this id, None exactly where no entity has it.
     pub fn find(&self, id: u8) -> Option<usize>
-        ensures { result ≡ spec.first_place_of self.now id }
+        ensures { result ≡ spec.first_index_of self.now id }
     {
-        self.places.get(&id).copied()
+        self.indices.get(&id).copied()
     }
 
-    /// The place of the first entity with this id, the number of entities where no entity has it.
-    pub fn place_of(&self, id: u8) -> usize
-        ensures { result ≡ spec.place_of self.now id }
+    /// The index of the first entity with this id, the number of entities where no entity has it.
+    pub fn index_of(&self, id: u8) -> usize
+        ensures { result ≡ spec.index_of self.now id }
     {
         match self.find(id) {
-            Some(place) => place,
+            Some(index) => index,
             None => self.entities.len(),
         }
     }
@@ -78,10 +78,10 @@ impl EntityTable {
     {
         let EntityTable {
             mut entities,
-            places,
+            indices,
         } = self;
         put_clusters(&mut entities, clusters);
-        EntityTable { entities, places }
+        EntityTable { entities, indices }
     }
 
     /// The kind of the first entity with this id.
@@ -89,7 +89,7 @@ impl EntityTable {
         ensures { result ≡ spec.kind_of self.now id }
     {
         match self.find(id) {
-            Some(place) => Some(self.entities[place].kind),
+            Some(index) => Some(self.entities[index].kind),
             None => None,
         }
     }
@@ -97,10 +97,10 @@ impl EntityTable {
     /// The channels that the first entity with this id puts out, 0 where no entity has it.
     pub fn channels_of(&self, id: u8) -> u8
         ensures value { result ≡ channels_of self.now id }
-        ensures placed { result ≡ (spec.at self.now (spec.place_of self.now id)).cluster.channels }
+        ensures placed { result ≡ (spec.at self.now (spec.index_of self.now id)).cluster.channels }
     {
         match self.find(id) {
-            Some(place) => self.entities[place].cluster.channels,
+            Some(index) => self.entities[index].cluster.channels,
             None => 0,
         }
     }
@@ -111,22 +111,22 @@ fn put_clusters(entities: &mut Vec<Entity>, clusters: &[Cluster])
     requires { length clusters.now ≡ length entities.old.items }
     ensures { entities.new.items ≡ spec.with_clusters entities.old.items clusters.now }
 {
-    for place in 0..clusters.len() {
-        let entity = &mut entities[place];
-        entity.cluster = clusters[place];
+    for index in 0..clusters.len() {
+        let entity = &mut entities[index];
+        entity.cluster = clusters[index];
     }
 }
 
-// For each id the place of the first entity with it.
-fn places_of(alloc: Global, entities: &[Entity]) -> Result<IndexMap<u8, usize>, NoMemory>
-    ensures { IfOk result (λ places. IsTable entities.now places) }
+// For each id the index of the first entity with it.
+fn indices_of(alloc: Global, entities: &[Entity]) -> Result<IndexMap<u8, usize>, NoMemory>
+    ensures { IfOk result (λ indices. IsTable entities.now indices) }
 {
-    let mut places = IndexMap::new(alloc);
-    for (place, entity) in entities.iter().enumerate() {
-        if places.contains_key(&entity.id) {
+    let mut indices = IndexMap::new(alloc);
+    for (index, entity) in entities.iter().enumerate() {
+        if indices.contains_key(&entity.id) {
             continue;
         }
-        places.insert(entity.id, place)?;
+        indices.insert(entity.id, index)?;
     }
-    Ok(places)
+    Ok(indices)
 }

@@ -55,8 +55,8 @@ fn judge(rule: Rule, table: &EntityTable, graph: &[Links], order: &[usize]) -> O
     requires ordered { IsOrder graph.now order.now }
     ensures { result ≡ of_entity (number rule) table.now (goes_on graph.now) }
 {
-    for (place, entity) in table.as_slice().iter().enumerate() {
-        if comes_round(graph, order, place) {
+    for (index, entity) in table.as_slice().iter().enumerate() {
+        if comes_round(graph, order, index) {
             return Some(TopologyFault {
                 rule: rule.number(),
                 id: entity.id,

@@ -1,2 +1,2 @@
 pub mod PrintingLemmas
-pub mod HexPieces
+pub mod WriteHexLemmas

@@ -16,17 +16,17 @@ pub data TransferOutcome : Type 0 where
   gave : List ℕ → TransferOutcome
   was_done : TransferOutcome
   -- the transfer was stalled by this rule
-  stalled : ℕ → TransferOutcome
+  transfer_was_stalled : ℕ → TransferOutcome
   broke : TransferOutcome
 
 -- what came of a line that names an element
 pub data Sight : Type 0 where
   -- the element's name, and its value
-  has_value : List ℕ → ℤ → Sight
+  element_has_value : List ℕ → ℤ → Sight
   is_unknown : List ℕ → Sight
   was_set : Sight
   -- the element's transfer was stalled by this rule
-  was_stalled : ℕ → Sight
+  element_was_stalled : ℕ → Sight
   was_broken : Sight
 
 pub data Said : Type 0 where
@@ -104,14 +104,14 @@ samples_text samples = flat_map (λ s. codes " " ++ numeral s) samples
 abbrev pub outcome_text : TransferOutcome → List ℕ
 outcome_text (gave bytes) = codes "c bytes " ++ hex_or_dash bytes ++ codes "\n"
 outcome_text was_done = codes "c done\n"
-outcome_text (stalled rule) = codes "c stall Q" ++ decimal rule ++ codes "\n"
+outcome_text (transfer_was_stalled rule) = codes "c stall Q" ++ decimal rule ++ codes "\n"
 outcome_text broke = codes "c broken\n"
 
 abbrev pub sight_text : Sight → List ℕ
-sight_text (has_value name value) = codes "h " ++ name ++ codes " " ++ numeral value ++ codes "\n"
+sight_text (element_has_value name value) = codes "h " ++ name ++ codes " " ++ numeral value ++ codes "\n"
 sight_text (is_unknown name) = codes "h " ++ name ++ codes " unknown\n"
 sight_text was_set = codes "h done\n"
-sight_text (was_stalled rule) = codes "h stall Q" ++ decimal rule ++ codes "\n"
+sight_text (element_was_stalled rule) = codes "h stall Q" ++ decimal rule ++ codes "\n"
 sight_text was_broken = codes "h broken\n"
 
 -- a line's bytes, with the newline

@@ -3,7 +3,7 @@ ghost use Rattle.hex.specs.Hex.{encode_lower};
 ghost use Rattle.std.specs.Prelude.{◌≡◌, ◌≤◌, length};
 ghost use Rattle.uac_edges.specs.Faults.{HasCause};
 ghost use Rattle.uac_edges.specs.Writing.{Writes};
-ghost use Rattle.uac_transcript.specs.Transcript.{broke, gave, hex_or_dash, says_answer, spelling_of, stalled, was_done};
+ghost use Rattle.uac_transcript.specs.Transcript.{broke, gave, hex_or_dash, says_answer, spelling_of, transfer_was_stalled, was_done};
 
 use uac_edges::{Failed, Sink, TextLine, give_all};
 
@@ -68,7 +68,7 @@ pub fn write_done<K: Sink>(sink: &mut K) -> Result<(), Failed>
 
 /// Prints the rule by which a transfer was stalled.
 pub fn write_stalled<K: Sink>(sink: &mut K, rule: u8) -> Result<(), Failed>
-    ensures written { Writes (K.written sink.old) (K.written sink.new) result (spelling_of (says_answer (stalled rule))) }
+    ensures written { Writes (K.written sink.old) (K.written sink.new) result (spelling_of (says_answer (transfer_was_stalled rule))) }
     ensures cause { HasCause (K.faults sink.old) (K.faults sink.new) result }
 {
     give_all(sink, stalled_text(rule).as_bytes())
@@ -76,7 +76,7 @@ pub fn write_stalled<K: Sink>(sink: &mut K, rule: u8) -> Result<(), Failed>
 
 #[tactic(auto, unfolding(crate::specs::Transcript::spelling_of))]
 fn stalled_text(rule: u8) -> TextLine<64>
-    ensures { result ≡ spelling_of (says_answer (stalled rule)) }
+    ensures { result ≡ spelling_of (says_answer (transfer_was_stalled rule)) }
 {
     let mut text = TextLine::new();
     text.push(b"c stall Q");

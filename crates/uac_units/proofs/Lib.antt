@@ -1,8 +1,8 @@
 pub mod SampleLanesLemmas
-pub mod Listing
-pub mod Mixing
-pub mod NodeLanes
+pub mod MetersLemmas
+pub mod RenderingMixLemmas
+pub mod SampleLanesNodeLemmas
 pub mod RenderingLemmas
 pub mod HearingLemmas
 pub mod Worked
-pub mod Writing
+pub mod RenderingWriteLemmas

@@ -57,12 +57,12 @@ seen_short ps (x ∷ xs) h =
       | inr none ↦ (0, omega arith, omega arith)
     ]
 
-pub place_of : (q : ℕ) (ps : List ℕ) → 0 < times q ps → (j : ℕ) × (j < length ps) × (get_or ps j 0 ≡ q)
-place_of q [] h = absurd (omega arith)
-place_of q (x ∷ xs) h =
+pub index_of : (q : ℕ) (ps : List ℕ) → 0 < times q ps → (j : ℕ) × (j < length ps) × (get_or ps j 0 ≡ q)
+index_of q [] h = absurd (omega arith)
+index_of q (x ∷ xs) h =
     elim (cases_eq x q) [
       | inl e ↦ (0, omega arith, e)
-      | inr n ↦ (let r = place_of q xs (omega (arith, times-cons q x xs, one_other x q n)) in (suc r.0, omega (arith, r.1), r.2))
+      | inr n ↦ (let r = index_of q xs (omega (arith, times-cons q x xs, one_other x q n)) in (suc r.0, omega (arith, r.1), r.2))
     ]
 
 pub times_at : (ps : List ℕ) (k : ℕ) → k < length ps → 0 < times (get_or ps k 0) ps

@@ -2,5 +2,5 @@ pub mod CountLemmas
 pub mod WalkLemmas
 pub mod CyclesLemmas
 pub mod NotingLemmas
-pub mod ReleaseStep
+pub mod NodeReleasingStepLemmas
 pub mod NodeReleasingLemmas

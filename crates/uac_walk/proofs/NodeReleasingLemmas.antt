@@ -11,7 +11,7 @@ use Rattle.uac_walk.specs.Count.{times, times_in}
 use Rattle.uac_walk.specs.Order.{IsClosed, IsAmongFirst, IsOrder}
 use Rattle.uac_walk.specs.Noting.{IsNamedBy}
 use Rattle.uac_walk.specs.NodeReleasing.{Releases, IsReleased}
-use Rattle.uac_walk.proofs.CountLemmas.{one, times_at, times_before, place_of, times_in-push, times_in-cons, times_in-le, seen_all, seen_short, any_from_times, none_from_times, no_equal, IsDistinct-from_times}
+use Rattle.uac_walk.proofs.CountLemmas.{one, times_at, times_before, index_of, times_in-push, times_in-cons, times_in-le, seen_all, seen_short, any_from_times, none_from_times, no_equal, IsDistinct-from_times}
 use Rattle.uac_walk.proofs.WalkLemmas.{any_none, no_longer}
 
 -- a node that stands nowhere below the number of nodes
@@ -19,7 +19,7 @@ none_past : (graph : List (List ℕ)) (order : List ℕ) → ((k : ℕ) → k < 
     (q : ℕ) → length graph ≤ q → times q order ≡ 0
 none_past graph order nodes q past =
     elim (cases_lt 0 (times q order)) [
-      | inl some ↦ (let p = place_of q order some in absurd (omega (arith, nodes p.0 p.1, p.2)))
+      | inl some ↦ (let p = index_of q order some in absurd (omega (arith, nodes p.0 p.1, p.2)))
       | inr none ↦ omega arith
     ]
 
@@ -160,7 +160,7 @@ module _ (graph namers : List (List ℕ)) (done : ℕ) (waiting order named wait
             let t = get_or (links graph v) i 0 in
             let all = counted v (nodes k in') in
             let some = seen_all (take (done + 1) order') (links graph v) once_now (omega (arith, new_waits_not k in' new)) i b in
-            let p = place_of t (take (done + 1) order') some in
+            let p = index_of t (take (done + 1) order') some in
             let short : length (take (done + 1) order') ≡ done + 1 = length-take-le (done + 1) order' (omega (arith, s.longer)) in
             (p.0, omega (arith, p.1), sym (get_or-take (done + 1) order' p.0 0 (omega (arith, p.1))) ∙ p.2 ∙ get_or_default (links graph v) i 0 d b))
       ]
@@ -238,7 +238,7 @@ module _ (graph : List (List ℕ)) (done : ℕ) (waiting order : List ℕ) (clos
       elim (cases_eq (get_or waiting v 0) 0) [
         | inl e ↦
             (let r : times v order ≡ 1 = rw (eq-eqb (get_or waiting v 0) 0 e) at (h.once v in') in
-            let p = place_of v order (omega arith) in
+            let p = index_of v order (omega arith) in
             let k = p.0 in
             let w : has_walk graph (suc k) v ≡ false = subst (λ (x : ℕ). has_walk graph (suc k) x ≡ false) p.2 (shallow (suc k) k (omega arith) p.1) in
             let i : (length graph - suc k) + suc k ≡ length graph = omega (arith, p.1, length-le graph done waiting order h) in

@@ -19,7 +19,7 @@ use Rattle.uac_words.specs.declared.commands.WordsFault.TheVariants.{NoMemory, U
 use Rattle.uac_words.specs.ByClap.{IsAnswer}
 use Rattle.uac_words.specs.Asked.{both, is_decimal, number_of}
 use Rattle.uac_words.specs.CommandLines.{AnswersLine, IsCommandInRange, IsCommandLine, rack_name, command_words}
-use Rattle.uac_words.specs.Plain.{PartedWords, CommandWord, invocation_at, command_in, ends_options, has_value, is_dashed, is_option, parted_words_of, plainly, rack_in, with_bare, with_rack}
+use Rattle.uac_words.specs.Plain.{PartedWords, CommandWord, invocation_at, command_in, ends_options, has_rack_value, is_dashed, is_option, parted_words_of, plainly, rack_in, with_bare, with_rack}
 use Rattle.uac_words.proofs.CommandLinesLemmas.{line_asks}
 use Rattle.uac_words.proofs.AskedDigitLemmas.{digits_all}
 use Rattle.uac_words.proofs.PlainWordLemmas.{bytes_same}
@@ -127,9 +127,9 @@ data First (word : CommandWord) (rest : List CommandWord) : Type 0 where
   usual : parted_words_of false (word ∷ rest) ≡ option_map (with_bare word) (parted_words_of false rest) → First word rest
 
 first_of : (word : CommandWord) (rest : List CommandWord) → First word rest
-first_of word rest = at (ends_options word) refl (is_option word) refl (has_value word) refl (is_dashed word) refl
+first_of word rest = at (ends_options word) refl (is_option word) refl (has_rack_value word) refl (is_dashed word) refl
   where
-    at : (a : Bool) → ends_options word ≡ a → (b : Bool) → is_option word ≡ b → (v : Bool) → has_value word ≡ v → (d : Bool) → is_dashed word ≡ d
+    at : (a : Bool) → ends_options word ≡ a → (b : Bool) → is_option word ≡ b → (v : Bool) → has_rack_value word ≡ v → (d : Bool) → is_dashed word ≡ d
         → First word rest
     at true ea b eb v ev d ed = ends (bytes_same word (codes "--") ea) (rw ea refl)
     at false ea true eb v ev d ed = apart (bytes_same word (codes "--rack") eb) (rw (ea, eb) refl)

@@ -3,6 +3,6 @@ pub mod ByClapLemmas
 pub mod CommandLinesLemmas
 pub mod AskedDigitLemmas
 pub mod PlainLemmas
-pub mod PlainRows
+pub mod PlainRowLemmas
 pub mod ByClapRunLemmas
 pub mod PlainWordLemmas

@@ -15,7 +15,7 @@ use Rattle.uac_words.specs.declared.commands.WordsFault.{WordsFault}
 use Rattle.uac_words.specs.Asked.{both}
 use Rattle.uac_words.specs.ByClap.{IsAnswer, invocation_of, none_refused}
 use Rattle.uac_words.specs.Plain.{PartedWords, invocation_at, command_in, parted_words_of, plainly, rack_in, with_bare, with_rack}
-use Rattle.uac_words.proofs.PlainRows.{Reads, found, full_reads, has_found, nothing_read, reads_command, reads_number, reads_rack, used_command, used_number, used_rack}
+use Rattle.uac_words.proofs.PlainRowLemmas.{Reads, found, full_reads, has_found, nothing_read, reads_command, reads_number, reads_rack, used_command, used_number, used_rack}
 use Rattle.uac_words.proofs.ByClapRunLemmas.{args, asked_runs, command_arg, full, number_arg, rack_arg, run, top, unless}
 use Rattle.uac_words.proofs.PlainWordLemmas.{IsBare, IsStrange, usual, class_of, dashes, option as option_class, strange, valued}
 

@@ -10,7 +10,7 @@ use Rattle.std.proofs.lemmas.Str.{encodes-chars}
 use Rattle.std.proofs.lemmas.Slice.Eq.{bytes_eq-Decides}
 use Rattle.clap.specs.Lexer.{long_of, name_and_value, short_of}
 use Rattle.std.specs.Prelude.{encode_utf8_all}
-use Rattle.uac_words.specs.Plain.{CommandWord, ends_options, has_value, is_dashed, is_option}
+use Rattle.uac_words.specs.Plain.{CommandWord, ends_options, has_rack_value, is_dashed, is_option}
 
 abbrev pub rack_name : CommandWord → CommandWord
 rack_name rest = before_first (λ x. x == 61) rest
@@ -23,7 +23,7 @@ pub record IsBare (word : CommandWord) : Type 0 where
   pub dashed : is_dashed word ≡ false
   pub ends : ends_options word ≡ false
   pub option : is_option word ≡ false
-  pub valued : has_value word ≡ false
+  pub valued : has_rack_value word ≡ false
   pub long : long_of word ≡ None
   pub short : short_of word ≡ None
 
@@ -32,7 +32,7 @@ pub record IsStrange (word : CommandWord) : Type 0 where
   pub dashed : is_dashed word ≡ true
   pub ends : ends_options word ≡ false
   pub option : is_option word ≡ false
-  pub valued : has_value word ≡ false
+  pub valued : has_rack_value word ≡ false
   pub unknown : ((p : CommandWord × Option CommandWord) × (long_of word ≡ Some p) × (bytes_eq (codes "rack") p.0 ≡ false))
       ⊎ ((y : ℕ) × (ys : CommandWord) × (x : ℕ) × (long_of word ≡ None) × (short_of word ≡ Some (y ∷ ys)) × (slice_get (chars (y ∷ ys)) 0 ≡ Some x))
 

@@ -35,8 +35,8 @@ abbrev pub is_option : CommandWord → Bool
 is_option word = bytes_eq word (codes "--rack")
 
 -- the word is `--rack=` with a value after it
-abbrev pub has_value : CommandWord → Bool
-has_value word = bytes_eq (take 7 word) (codes "--rack=")
+abbrev pub has_rack_value : CommandWord → Bool
+has_rack_value word = bytes_eq (take 7 word) (codes "--rack=")
 
 -- the words in their parts; `waits` says that the word before was `--rack`, whose value comes next. Any other dashed word is refused,
 -- until a word `--`, after which nothing is an option
@@ -47,7 +47,7 @@ parted_words_of false [] = Some (record { bare = []; racks = [] })
 parted_words_of false (word ∷ rest) =
     if ends_options word then Some (record { bare = rest; racks = [] })
     else if is_option word then parted_words_of true rest
-    else if has_value word then option_map (with_rack (drop 7 word)) (parted_words_of false rest)
+    else if has_rack_value word then option_map (with_rack (drop 7 word)) (parted_words_of false rest)
     else if is_dashed word then None
     else option_map (with_bare word) (parted_words_of false rest)
 

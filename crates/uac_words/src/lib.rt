@@ -3,9 +3,9 @@
 
 mod commands;
 pub mod laws;
-mod reading;
+mod parsing;
 #[cfg(test)]
 mod tests;
 
 pub use commands::{Command, Invocation, RackChoice, WordsFault};
-pub use reading::read;
+pub use parsing::read;

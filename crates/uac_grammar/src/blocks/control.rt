@@ -12,7 +12,7 @@ use uac_descriptor::{
 };
 
 /// The header (Audio Class 2.0, 4.7.2).
-#[tactic(auto, unfolding(uac_descriptor::specs::BlockReading::has_length, uac_descriptor::specs::BlockReading::fields))]
+#[tactic(auto, unfolding(uac_descriptor::specs::BlockParsing::has_length, uac_descriptor::specs::BlockParsing::fields))]
 pub(super) fn header(bytes: &[u8]) -> Option<Block>
     ensures { result ≡ read_row rows.header bytes.now }
 {
@@ -28,7 +28,7 @@ pub(super) fn header(bytes: &[u8]) -> Option<Block>
 }
 
 /// A clock source (Audio Class 2.0, 4.7.2.1).
-#[tactic(auto, unfolding(uac_descriptor::specs::BlockReading::has_length, uac_descriptor::specs::BlockReading::fields))]
+#[tactic(auto, unfolding(uac_descriptor::specs::BlockParsing::has_length, uac_descriptor::specs::BlockParsing::fields))]
 pub(super) fn clock_source(bytes: &[u8]) -> Option<Block>
     ensures { result ≡ read_row rows.clock_source bytes.now }
 {
@@ -45,7 +45,7 @@ pub(super) fn clock_source(bytes: &[u8]) -> Option<Block>
 }
 
 /// A clock selector (Audio Class 2.0, 4.7.2.2).
-#[tactic(auto, unfolding(uac_descriptor::specs::BlockReading::has_length, uac_descriptor::specs::BlockReading::fields))]
+#[tactic(auto, unfolding(uac_descriptor::specs::BlockParsing::has_length, uac_descriptor::specs::BlockParsing::fields))]
 pub(super) fn clock_selector(alloc: Global, bytes: &[u8]) -> Result<Option<Block>, NoMemory>
     requires { IsWhole bytes.now }
     ensures { IfOk result (λ found. found ≡ read_row rows.clock_selector bytes.now) }
@@ -63,7 +63,7 @@ pub(super) fn clock_selector(alloc: Global, bytes: &[u8]) -> Result<Option<Block
 }
 
 /// A clock multiplier (Audio Class 2.0, 4.7.2.3).
-#[tactic(auto, unfolding(uac_descriptor::specs::BlockReading::has_length, uac_descriptor::specs::BlockReading::fields))]
+#[tactic(auto, unfolding(uac_descriptor::specs::BlockParsing::has_length, uac_descriptor::specs::BlockParsing::fields))]
 pub(super) fn clock_multiplier(bytes: &[u8]) -> Option<Block>
     ensures { result ≡ read_row rows.clock_multiplier bytes.now }
 {
@@ -79,7 +79,7 @@ pub(super) fn clock_multiplier(bytes: &[u8]) -> Option<Block>
 }
 
 /// An input terminal (Audio Class 2.0, 4.7.2.4).
-#[tactic(auto, unfolding(uac_descriptor::specs::BlockReading::has_length, uac_descriptor::specs::BlockReading::fields))]
+#[tactic(auto, unfolding(uac_descriptor::specs::BlockParsing::has_length, uac_descriptor::specs::BlockParsing::fields))]
 pub(super) fn input_terminal(bytes: &[u8]) -> Option<Block>
     ensures { result ≡ read_row rows.input_terminal bytes.now }
 {
@@ -100,7 +100,7 @@ pub(super) fn input_terminal(bytes: &[u8]) -> Option<Block>
 }
 
 /// An output terminal (Audio Class 2.0, 4.7.2.5).
-#[tactic(auto, unfolding(uac_descriptor::specs::BlockReading::has_length, uac_descriptor::specs::BlockReading::fields))]
+#[tactic(auto, unfolding(uac_descriptor::specs::BlockParsing::has_length, uac_descriptor::specs::BlockParsing::fields))]
 pub(super) fn output_terminal(bytes: &[u8]) -> Option<Block>
     ensures { result ≡ read_row rows.output_terminal bytes.now }
 {
@@ -119,7 +119,7 @@ pub(super) fn output_terminal(bytes: &[u8]) -> Option<Block>
 }
 
 /// A mixer unit (Audio Class 2.0, 4.7.2.6).
-#[tactic(auto, unfolding(uac_descriptor::specs::BlockReading::has_length, uac_descriptor::specs::BlockReading::fields))]
+#[tactic(auto, unfolding(uac_descriptor::specs::BlockParsing::has_length, uac_descriptor::specs::BlockParsing::fields))]
 pub(super) fn mixer(alloc: Global, bytes: &[u8]) -> Result<Option<Block>, NoMemory>
     requires { IsWhole bytes.now }
     ensures { IfOk result (λ found. found ≡ read_row rows.mixer bytes.now) }
@@ -143,7 +143,7 @@ pub(super) fn mixer(alloc: Global, bytes: &[u8]) -> Result<Option<Block>, NoMemo
 }
 
 /// A selector unit (Audio Class 2.0, 4.7.2.7).
-#[tactic(auto, unfolding(uac_descriptor::specs::BlockReading::has_length, uac_descriptor::specs::BlockReading::fields))]
+#[tactic(auto, unfolding(uac_descriptor::specs::BlockParsing::has_length, uac_descriptor::specs::BlockParsing::fields))]
 pub(super) fn selector(alloc: Global, bytes: &[u8]) -> Result<Option<Block>, NoMemory>
     requires { IsWhole bytes.now }
     ensures { IfOk result (λ found. found ≡ read_row rows.selector bytes.now) }
@@ -161,7 +161,7 @@ pub(super) fn selector(alloc: Global, bytes: &[u8]) -> Result<Option<Block>, NoM
 }
 
 /// A feature unit (Audio Class 2.0, 4.7.2.8).
-#[tactic(auto, using(crate::proofs::Parts::words_length), unfolding(uac_descriptor::specs::BlockReading::has_length, uac_descriptor::specs::BlockReading::fields))]
+#[tactic(auto, using(crate::proofs::LittleLemmas::words_length), unfolding(uac_descriptor::specs::BlockParsing::has_length, uac_descriptor::specs::BlockParsing::fields))]
 pub(super) fn feature(alloc: Global, bytes: &[u8]) -> Result<Option<Block>, NoMemory>
     requires { IsWhole bytes.now }
     ensures { IfOk result (λ found. found ≡ read_row rows.feature bytes.now) }
@@ -178,7 +178,7 @@ pub(super) fn feature(alloc: Global, bytes: &[u8]) -> Result<Option<Block>, NoMe
 }
 
 /// An effect unit (Audio Class 2.0, 4.7.2.10; profile: its control words and its length).
-#[tactic(auto, using(crate::proofs::Parts::words_length), unfolding(uac_descriptor::specs::BlockReading::has_length, uac_descriptor::specs::BlockReading::fields))]
+#[tactic(auto, using(crate::proofs::LittleLemmas::words_length), unfolding(uac_descriptor::specs::BlockParsing::has_length, uac_descriptor::specs::BlockParsing::fields))]
 pub(super) fn effect(alloc: Global, bytes: &[u8]) -> Result<Option<Block>, NoMemory>
     requires { IsWhole bytes.now }
     ensures { IfOk result (λ found. found ≡ read_row rows.effect bytes.now) }

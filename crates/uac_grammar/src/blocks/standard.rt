@@ -12,7 +12,7 @@ use uac_descriptor::{
 };
 
 /// The configuration (USB 2.0, 9.6.3).
-#[tactic(auto, unfolding(uac_descriptor::specs::BlockReading::has_length, uac_descriptor::specs::BlockReading::fields))]
+#[tactic(auto, unfolding(uac_descriptor::specs::BlockParsing::has_length, uac_descriptor::specs::BlockParsing::fields))]
 pub(super) fn configuration(bytes: &[u8]) -> Option<Block>
     ensures { result ≡ read_row rows.configuration bytes.now }
 {
@@ -30,7 +30,7 @@ pub(super) fn configuration(bytes: &[u8]) -> Option<Block>
 }
 
 /// An association of interfaces (USB 2.0, its supplement on interface associations).
-#[tactic(auto, unfolding(uac_descriptor::specs::BlockReading::has_length, uac_descriptor::specs::BlockReading::fields))]
+#[tactic(auto, unfolding(uac_descriptor::specs::BlockParsing::has_length, uac_descriptor::specs::BlockParsing::fields))]
 pub(super) fn association(bytes: &[u8]) -> Option<Block>
     ensures { result ≡ read_row rows.association bytes.now }
 {
@@ -48,7 +48,7 @@ pub(super) fn association(bytes: &[u8]) -> Option<Block>
 }
 
 /// An interface (USB 2.0, 9.6.5).
-#[tactic(auto, unfolding(uac_descriptor::specs::BlockReading::has_length, uac_descriptor::specs::BlockReading::fields))]
+#[tactic(auto, unfolding(uac_descriptor::specs::BlockParsing::has_length, uac_descriptor::specs::BlockParsing::fields))]
 pub(super) fn interface(bytes: &[u8]) -> Option<Block>
     ensures { result ≡ read_row rows.interface bytes.now }
 {
@@ -67,7 +67,7 @@ pub(super) fn interface(bytes: &[u8]) -> Option<Block>
 }
 
 /// An endpoint (USB 2.0, 9.6.6).
-#[tactic(auto, unfolding(uac_descriptor::specs::BlockReading::has_length, uac_descriptor::specs::BlockReading::fields))]
+#[tactic(auto, unfolding(uac_descriptor::specs::BlockParsing::has_length, uac_descriptor::specs::BlockParsing::fields))]
 pub(super) fn endpoint(bytes: &[u8]) -> Option<Block>
     ensures { result ≡ read_row rows.endpoint bytes.now }
 {
@@ -83,7 +83,7 @@ pub(super) fn endpoint(bytes: &[u8]) -> Option<Block>
 }
 
 /// A block that no other row reads.
-#[tactic(auto, unfolding(uac_descriptor::specs::BlockReading::has_length, uac_descriptor::specs::BlockReading::fields))]
+#[tactic(auto, unfolding(uac_descriptor::specs::BlockParsing::has_length, uac_descriptor::specs::BlockParsing::fields))]
 pub(super) fn foreign(alloc: Global, bytes: &[u8]) -> Result<Option<Block>, NoMemory>
     requires whole { IsWhole bytes.now }
     requires not_parting { IsTrue (not (is_parting (slice_index bytes.now 1))) }

@@ -9,7 +9,7 @@ use std::alloc::Global;
 use uac_descriptor::{Block, ByteList, ClassEndpoint, Extra, General, NoMemory, TypeOne};
 
 /// The general block (Audio Class 2.0, 4.9.2).
-#[tactic(auto, unfolding(uac_descriptor::specs::BlockReading::has_length, uac_descriptor::specs::BlockReading::fields))]
+#[tactic(auto, unfolding(uac_descriptor::specs::BlockParsing::has_length, uac_descriptor::specs::BlockParsing::fields))]
 pub(super) fn general(bytes: &[u8]) -> Option<Block>
     ensures { result ≡ read_row rows.general bytes.now }
 {
@@ -28,7 +28,7 @@ pub(super) fn general(bytes: &[u8]) -> Option<Block>
 }
 
 /// The Type I format (Audio Data Formats 2.0, 2.3.1.6).
-#[tactic(auto, unfolding(uac_descriptor::specs::BlockReading::has_length, uac_descriptor::specs::BlockReading::fields))]
+#[tactic(auto, unfolding(uac_descriptor::specs::BlockParsing::has_length, uac_descriptor::specs::BlockParsing::fields))]
 pub(super) fn type_one(bytes: &[u8]) -> Option<Block>
     ensures { result ≡ read_row rows.type_one bytes.now }
 {
@@ -42,7 +42,7 @@ pub(super) fn type_one(bytes: &[u8]) -> Option<Block>
 }
 
 /// The class block after an endpoint (Audio Class 2.0, 4.10.1.2).
-#[tactic(auto, unfolding(uac_descriptor::specs::BlockReading::has_length, uac_descriptor::specs::BlockReading::fields))]
+#[tactic(auto, unfolding(uac_descriptor::specs::BlockParsing::has_length, uac_descriptor::specs::BlockParsing::fields))]
 pub(super) fn class_endpoint(bytes: &[u8]) -> Option<Block>
     ensures { result ≡ read_row rows.class_endpoint bytes.now }
 {
@@ -58,7 +58,7 @@ pub(super) fn class_endpoint(bytes: &[u8]) -> Option<Block>
 }
 
 /// Another class block: of another format type, or another subtype.
-#[tactic(auto, unfolding(uac_descriptor::specs::BlockReading::has_length, uac_descriptor::specs::BlockReading::fields))]
+#[tactic(auto, unfolding(uac_descriptor::specs::BlockParsing::has_length, uac_descriptor::specs::BlockParsing::fields))]
 pub(super) fn extra(alloc: Global, bytes: &[u8]) -> Result<Option<Block>, NoMemory>
     requires whole { IsWhole bytes.now }
     requires another { IsTrue (is_extra (slice_index bytes.now 2) (drop 3 bytes.now)) }

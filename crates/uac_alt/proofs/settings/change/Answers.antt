@@ -1,6 +1,6 @@
 -- One more is changed.
 use Rattle.uac_alt.specs.AltSettings.{interface_setting_after}
-use Rattle.uac_alt.proofs.Changed.{changed_more}
+use Rattle.uac_alt.proofs.AltSettingsLemmas.{changed_more}
 use Rattle.uac_alt.proofs.settings.change.Goals as goal
 
 pub loop-held-preserved : goal.loop-held-preserved

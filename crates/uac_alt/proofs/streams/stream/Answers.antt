@@ -1,6 +1,6 @@
 -- The stream is that of what was found.
 use Rattle.std.proofs.Common.{refl}
-use Rattle.uac_alt.proofs.Found.{format_found, stream_of_found}
+use Rattle.uac_alt.proofs.AltStreamsFoundLemmas.{format_found, stream_of_found}
 use Rattle.uac_alt.proofs.streams.stream.Goals as goal
 
 pub stream_at-requires : goal.stream_at-requires

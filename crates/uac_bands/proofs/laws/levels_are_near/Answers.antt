@@ -1,4 +1,4 @@
-use Rattle.uac_bands.proofs.Banded.{ends_near, holds_between}
+use Rattle.uac_bands.proofs.BandsLemmas.{ends_near, holds_between}
 use Rattle.uac_bands.proofs.laws.levels_are_near.Goals as goal
 
 pub returns-clause-ends : goal.returns-clause-ends

@@ -1,4 +1,4 @@
-use Rattle.uac_bands.proofs.Lived.{microframes_are_lived, tracks_go_on}
+use Rattle.uac_bands.proofs.ProjectionLifeLemmas.{microframes_are_lived, tracks_go_on}
 use Rattle.uac_bands.proofs.laws.microframes_are_lived.Goals as goal
 
 pub returns-clause-life : goal.returns-clause-life

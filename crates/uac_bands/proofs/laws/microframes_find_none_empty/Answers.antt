@@ -1,4 +1,4 @@
-use Rattle.uac_bands.proofs.NoneEmpty.{find_none_empty}
+use Rattle.uac_bands.proofs.BandRunEmptyLemmas.{find_none_empty}
 use Rattle.uac_bands.proofs.laws.microframes_find_none_empty.Goals as goal
 
 pub returns : goal.returns

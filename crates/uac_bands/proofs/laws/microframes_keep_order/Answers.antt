@@ -1,4 +1,4 @@
-use Rattle.uac_bands.proofs.Stayed.{microframes_keep_order, microframes_keep_the_rest}
+use Rattle.uac_bands.proofs.ProjectionKeptLemmas.{microframes_keep_order, microframes_keep_the_rest}
 use Rattle.uac_bands.proofs.laws.microframes_keep_order.Goals as goal
 
 pub returns-clause-rest : goal.returns-clause-rest

@@ -1,4 +1,4 @@
-use Rattle.uac_bands.proofs.Fed.{microframes_keep_fed, packets_have_their_frames}
+use Rattle.uac_bands.proofs.ProjectionPacketLemmas.{microframes_keep_fed, packets_have_their_frames}
 use Rattle.uac_bands.proofs.laws.packets_have_their_frames.Goals as goal
 
 pub returns-clause-fed : goal.returns-clause-fed

@@ -1,4 +1,4 @@
-use Rattle.uac_bands.proofs.Banded.{holds_enough, never_dry, never_over_full}
+use Rattle.uac_bands.proofs.BandsLemmas.{holds_enough, never_dry, never_over_full}
 use Rattle.uac_bands.proofs.laws.rings_run_neither_dry_nor_over.Goals as goal
 
 pub returns-clause-enough : goal.returns-clause-enough

@@ -1,4 +1,4 @@
-use Rattle.uac_bands.proofs.Begun.{calls_keep_bands, runs_start_in_band}
+use Rattle.uac_bands.proofs.BeginningsLemmas.{calls_keep_bands, runs_start_in_band}
 use Rattle.uac_bands.proofs.laws.runs_start_in_their_bands.Goals as goal
 
 pub returns-clause-start : goal.returns-clause-start

@@ -1,4 +1,4 @@
-use Rattle.uac_bands.proofs.SteadyRun.{keep_bands}
+use Rattle.uac_bands.proofs.BandRunLemmas.{keep_bands}
 use Rattle.uac_bands.proofs.laws.steady_microframes_keep_bands.Goals as goal
 
 pub returns : goal.returns

@@ -1,4 +1,4 @@
-use Rattle.uac_bands.proofs.LookingBack.{calls_look_back, looks_back, stay_steady}
+use Rattle.uac_bands.proofs.BandRunEarlierLemmas.{calls_look_back, looks_back, stay_steady}
 use Rattle.uac_bands.proofs.laws.steady_runs_stay_steady.Goals as goal
 
 pub returns-clause-back : goal.returns-clause-back

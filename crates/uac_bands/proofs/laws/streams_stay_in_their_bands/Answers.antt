@@ -1,4 +1,4 @@
-use Rattle.uac_bands.proofs.Banded.{starts_in_band, stays_in_band}
+use Rattle.uac_bands.proofs.BandsLemmas.{starts_in_band, stays_in_band}
 use Rattle.uac_bands.proofs.laws.streams_stay_in_their_bands.Goals as goal
 
 pub returns-clause-starts : goal.returns-clause-starts

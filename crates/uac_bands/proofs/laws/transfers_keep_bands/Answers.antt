@@ -1,4 +1,4 @@
-use Rattle.uac_bands.proofs.Transferred.{transfers_keep_bands}
+use Rattle.uac_bands.proofs.BandTransfersBandLemmas.{transfers_keep_bands}
 use Rattle.uac_bands.proofs.laws.transfers_keep_bands.Goals as goal
 
 pub returns : goal.returns

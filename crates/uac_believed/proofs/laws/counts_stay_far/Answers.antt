@@ -1,4 +1,4 @@
-use Rattle.uac_believed.proofs.CountedLines.{counts_stay_far}
+use Rattle.uac_believed.proofs.CountsLemmas.{counts_stay_far}
 use Rattle.uac_believed.proofs.laws.counts_stay_far.Goals as goal
 
 pub returns : goal.returns

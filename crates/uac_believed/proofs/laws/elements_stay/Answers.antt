@@ -1,4 +1,4 @@
-use Rattle.uac_believed.proofs.Known.{elements_stay}
+use Rattle.uac_believed.proofs.UnknownLemmas.{elements_stay}
 use Rattle.uac_believed.proofs.laws.elements_stay.Goals as goal
 
 pub returns : goal.returns

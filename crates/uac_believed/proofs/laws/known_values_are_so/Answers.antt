@@ -1,4 +1,4 @@
-use Rattle.uac_believed.proofs.Lines.{known_values_are_so}
+use Rattle.uac_believed.proofs.BelievedLemmas.{known_values_are_so}
 use Rattle.uac_believed.proofs.laws.known_values_are_so.Goals as goal
 
 pub returns : goal.returns

@@ -1,4 +1,4 @@
-use Rattle.uac_believed.proofs.Known.{values_are_known_as_told}
+use Rattle.uac_believed.proofs.UnknownLemmas.{values_are_known_as_told}
 use Rattle.uac_believed.proofs.laws.values_are_known_as_told.Goals as goal
 
 pub returns : goal.returns

@@ -1,5 +1,5 @@
 use Rattle.std.proofs.Common.{◌≡◌, true, refl}
-use Rattle.uac_bus.proofs.Stepping.{idle_in, fed_in, early_in, is_later, later_as, out_of, played_in}
+use Rattle.uac_bus.proofs.BusWorldLemmas.{idle_in, fed_in, early_in, is_later, later_as, out_of, played_in}
 use Rattle.uac_bus.proofs.bus.advance.Goals as goal
 
 pub returns-in-Nothing-clause-does : goal.returns-in-Nothing-clause-does

@@ -1,4 +1,4 @@
-use Rattle.uac_bus.proofs.Stepping.{begun_in, unbegun_in, gone_before}
+use Rattle.uac_bus.proofs.BusWorldLemmas.{begun_in, unbegun_in, gone_before}
 use Rattle.uac_bus.proofs.bus.go.Goals as goal
 
 pub returns-in-Ok-clause-does : goal.returns-in-Ok-clause-does

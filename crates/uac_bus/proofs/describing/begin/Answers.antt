@@ -1,4 +1,4 @@
-use Rattle.uac_bus.proofs.DescriptorLines.{gone_ill}
+use Rattle.uac_bus.proofs.BusWorldDescriptorLemmas.{gone_ill}
 use Rattle.uac_bus.proofs.describing.begin.Goals as goal
 
 pub returns-in-Ok-clause-begins : goal.returns-in-Ok-clause-begins

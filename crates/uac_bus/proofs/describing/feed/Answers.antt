@@ -1,6 +1,6 @@
 use Rattle.std.proofs.Common.{◌∙◌, ap}
 use Rattle.uac_bus.specs.BusRows.{bus_fault_of}
-use Rattle.uac_bus.proofs.DescriptorLines.{fed_well, fed_ill}
+use Rattle.uac_bus.proofs.BusWorldDescriptorLemmas.{fed_well, fed_ill}
 use Rattle.uac_bus.proofs.describing.feed.Goals as goal
 
 pub returns-in-Ok-clause-does : goal.returns-in-Ok-clause-does

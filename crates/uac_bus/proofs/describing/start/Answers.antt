@@ -1,4 +1,4 @@
-use Rattle.uac_bus.proofs.DescriptorLines.{begun}
+use Rattle.uac_bus.proofs.BusWorldDescriptorLemmas.{begun}
 use Rattle.uac_bus.proofs.describing.start.Goals as goal
 
 pub returns-in-Ok-clause-begins : goal.returns-in-Ok-clause-begins

@@ -3,8 +3,8 @@ use Rattle.std.proofs.KnownBytes.{Appends-nil}
 use Rattle.uac_topology.specs.Function.{FunctionFields}
 use Rattle.uac_topology.specs.FunctionKept.{AreNumbered}
 use Rattle.uac_host.specs.HostCalls.{AreWhole}
-use Rattle.uac_bus.proofs.Rowing.{append_broken, unless_reached, streams_in, has_out_in, are_frames_in}
-use Rattle.uac_bus.proofs.Framing.{are_whole}
+use Rattle.uac_bus.proofs.BusRowsLemmas.{append_broken, unless_reached, streams_in, has_out_in, are_frames_in}
+use Rattle.uac_bus.proofs.HostCallsFrameLemmas.{are_whole}
 use Rattle.uac_bus.proofs.rows.append.Goals as goal
 
 pub returns-then-not-are_frames-clause-does : goal.returns-then-not-are_frames-clause-does

@@ -3,7 +3,7 @@ use Rattle.std.proofs.KnownBytes.{Appends-nil}
 use Rattle.std.proofs.lemmas.Int.{to_z-of_z}
 use Rattle.uac_running.specs.RunningWorld.{with_deviation}
 use Rattle.uac_running.specs.RunningKept.{RunningStandsBetween}
-use Rattle.uac_bus.proofs.Rowing.{unless_reached}
+use Rattle.uac_bus.proofs.BusRowsLemmas.{unless_reached}
 use Rattle.uac_bus.proofs.rows.deviate.Goals as goal
 
 pub returns-clause-does : goal.returns-clause-does

@@ -1,6 +1,6 @@
 use Rattle.std.proofs.Common.{w32, FitsSigned, rules}
 use Rattle.std.proofs.lemmas.Int.{to_z-of_z}
-use Rattle.uac_bus.proofs.Rowing.{deviates_said, sets_said}
+use Rattle.uac_bus.proofs.BusRowsLemmas.{deviates_said, sets_said}
 use Rattle.uac_bus.proofs.rows.play.Goals as goal
 
 pub returns-in-Control-clause-does : goal.returns-in-Control-clause-does

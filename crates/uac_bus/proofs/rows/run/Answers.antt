@@ -1,8 +1,8 @@
 use Rattle.std.proofs.Common.{sym, ◌∙◌, map}
 use Rattle.uac_script.specs.Line.{phrase_mark}
 use Rattle.uac_running.specs.Events.{microframes}
-use Rattle.uac_bus.proofs.Stepping.{unless_fails}
-use Rattle.uac_bus.proofs.Rowing.{streams_in, are_placed_in, told_reached, unless_cut}
+use Rattle.uac_bus.proofs.BusWorldLemmas.{unless_fails}
+use Rattle.uac_bus.proofs.BusRowsLemmas.{streams_in, are_placed_in, told_reached, unless_cut}
 use Rattle.uac_bus.proofs.rows.run.Goals as goal
 
 pub returns-then-not-all_name_streams-clause-does : goal.returns-then-not-all_name_streams-clause-does

@@ -3,8 +3,8 @@ use Rattle.std.proofs.KnownBytes.{Appends-nil}
 use Rattle.uac_pcm.specs.declared.tones.Tone.{Tone}
 use Rattle.uac_running.specs.RunningWorld.{with_track}
 use Rattle.uac_running.specs.RunningKept.{RunningStandsBetween}
-use Rattle.uac_bus.proofs.Stepping.{tone_back}
-use Rattle.uac_bus.proofs.Rowing.{unless_reached, streams_in, has_out_in}
+use Rattle.uac_bus.proofs.BusWorldLemmas.{tone_back}
+use Rattle.uac_bus.proofs.BusRowsLemmas.{unless_reached, streams_in, has_out_in}
 use Rattle.uac_bus.proofs.rows.track.Goals as goal
 
 pub returns-clause-does : goal.returns-clause-does

@@ -8,8 +8,8 @@ use Rattle.uac_running.specs.RunningTransfers.{set_element}
 use Rattle.uac_bus.specs.declared.bus.BusStage.TheVariants as stages
 use Rattle.uac_bus.specs.BusWorld.{Step, breaks_rule}
 use Rattle.uac_bus.specs.BusKept.{IsWriteCut, Reaches, BusStageStands}
-use Rattle.uac_bus.proofs.Stepping.{unless_fails, unless_holds}
-use Rattle.uac_bus.proofs.TransferRows.{on_named}
+use Rattle.uac_bus.proofs.BusWorldLemmas.{unless_fails, unless_holds}
+use Rattle.uac_bus.proofs.BusWorldElementLemmas.{on_named}
 use Rattle.uac_bus.proofs.transfers.set.Goals as goal
 
 pub returns-then-not-fits-clause-does : goal.returns-then-not-fits-clause-does

@@ -4,7 +4,7 @@ use Rattle.uac_running.specs.RunningTransfers.{show_element}
 use Rattle.uac_bus.specs.declared.bus.BusStage.TheVariants as stages
 use Rattle.uac_bus.specs.BusWorld.{Step}
 use Rattle.uac_bus.specs.BusKept.{IsWriteCut, Reaches, BusStageStands}
-use Rattle.uac_bus.proofs.TransferRows.{on_named}
+use Rattle.uac_bus.proofs.BusWorldElementLemmas.{on_named}
 use Rattle.uac_bus.proofs.transfers.show.Goals as goal
 
 pub returns-in-Ok-clause-does : goal.returns-in-Ok-clause-does

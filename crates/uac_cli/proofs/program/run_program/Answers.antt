@@ -1,5 +1,5 @@
 use Rattle.std.proofs.Common.{ap, refl}
-use Rattle.uac_cli.proofs.Asking.{asked_words, call_asked, whole_asked, end_asked, call_unread}
+use Rattle.uac_cli.proofs.ProgramLemmas.{asked_words, call_asked, whole_asked, end_asked, call_unread}
 use Rattle.uac_cli.proofs.program.run_program.Goals as goal
 
 pub returns-in-Ok-run_in_boxes-clause-call : goal.returns-in-Ok-run_in_boxes-clause-call

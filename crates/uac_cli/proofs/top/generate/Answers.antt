@@ -1,5 +1,5 @@
 use Rattle.uac_cli.proofs.CallLemmas.{generated_run}
-use Rattle.uac_cli.proofs.Completed.{never_failed}
+use Rattle.uac_cli.proofs.CompletenessLemmas.{never_failed}
 use Rattle.uac_cli.proofs.top.generate.Goals as goal
 
 pub returns-clause-generated : goal.returns-clause-generated

@@ -4,8 +4,8 @@ use Rattle.uac_scripts.specs.ScriptRun.{usage}
 use Rattle.uac_describe.proofs.HandingOnLemmas.{faultless_on, status_before}
 use Rattle.uac_cli.proofs.CallLemmas.{done_call, usage_call, unread_call, read_to_end, ok_is_no_write, read_is_no_write}
 use Rattle.uac_cli.proofs.CallLemmas.{usage_refuses, memory_refuses, refused_cause, refused_unread, refused_faultless, refused_end}
-use Rattle.uac_cli.proofs.Completed.{done_whole}
-use Rattle.uac_cli.proofs.HandingOn.{call_on, write_fault_on}
+use Rattle.uac_cli.proofs.CompletenessLemmas.{done_whole}
+use Rattle.uac_cli.proofs.CallHandingOnLemmas.{call_on, write_fault_on}
 use Rattle.uac_cli.proofs.top.uac_main.Goals as goal
 
 -- ---- the words ask for a command

@@ -1,6 +1,6 @@
 use Rattle.std.proofs.Common.{subst, sym}
 use Rattle.uac_descriptor.specs.WellFormed.{AreWellFormed}
-use Rattle.uac_configuration.proofs.Described.{described_with, described_broken}
+use Rattle.uac_configuration.proofs.DescriptionLemmas.{described_with, described_broken}
 use Rattle.uac_configuration.proofs.describing.sound_descriptor.Goals as goal
 
 pub returns-in-Ok-check : goal.returns-in-Ok-check

@@ -1,7 +1,7 @@
 use Rattle.std.proofs.Common.{subst, sym}
 use Rattle.uac_descriptor.specs.WellFormed.{AreWellFormed}
 use Rattle.uac_describe.specs.Outcome.{read_fault}
-use Rattle.uac_describe.proofs.Answering.{judged_run, refused_run, failed_run, closes_faultless, told_status, refuses_faultless}
+use Rattle.uac_describe.proofs.AnsweredLemmas.{judged_run, refused_run, failed_run, closes_faultless, told_status, refuses_faultless}
 use Rattle.uac_describe.proofs.describing.describe.Goals as goal
 
 pub returns-in-Whole-clause-answered : goal.returns-in-Whole-clause-answered

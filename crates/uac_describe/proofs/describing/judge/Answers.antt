@@ -1,4 +1,4 @@
-use Rattle.uac_describe.proofs.Answering.{judges_sound, judges_broken}
+use Rattle.uac_describe.proofs.AnsweredLemmas.{judges_sound, judges_broken}
 use Rattle.uac_describe.proofs.describing.judge.Goals as goal
 
 pub returns-in-Ok : goal.returns-in-Ok

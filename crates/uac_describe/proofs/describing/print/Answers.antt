@@ -1,4 +1,4 @@
-use Rattle.uac_describe.proofs.Answering.{elements_said}
+use Rattle.uac_describe.proofs.AnsweredLemmas.{elements_said}
 use Rattle.uac_describe.proofs.describing.print.Goals as goal
 
 pub returns-in-Elements : goal.returns-in-Elements

@@ -1,5 +1,5 @@
 use Rattle.std.proofs.Common.{◌∙◌}
-use Rattle.uac_describe.proofs.Answering.{refuses_fault, refuses_memory}
+use Rattle.uac_describe.proofs.AnsweredLemmas.{refuses_fault, refuses_memory}
 use Rattle.uac_describe.proofs.describing.refuse.Goals as goal
 
 pub returns-in-Fault : goal.returns-in-Fault

@@ -1,5 +1,5 @@
 use Rattle.std.proofs.Common.{◌∙◌}
-use Rattle.uac_describe.proofs.Answering.{refuses_function, refuses_function_memory}
+use Rattle.uac_describe.proofs.AnsweredLemmas.{refuses_function, refuses_function_memory}
 use Rattle.uac_describe.proofs.describing.refuse_function.Goals as goal
 
 pub returns-in-Fault : goal.returns-in-Fault

@@ -2,7 +2,7 @@ use Rattle.std.proofs.Common.{◌∙◌, ap, refl, sym}
 use Rattle.std.specs.Option.{option_map}
 use Rattle.uac_units.specs.MeterReadings.{readings}
 use Rattle.uac_device.specs.DeviceWorld.{after_frames}
-use Rattle.uac_device.proofs.Heard.{heard_all, heard_more, heard_none}
+use Rattle.uac_device.proofs.DeviceTurnsMeterLemmas.{heard_all, heard_more, heard_none}
 use Rattle.uac_device.proofs.hearing.hear.Goals as goal
 use Rattle.uac_device.proofs.hearing.hear.Goals.{in-Some, in_default}
 

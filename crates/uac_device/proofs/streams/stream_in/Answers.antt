@@ -2,7 +2,7 @@ use Rattle.std.proofs.Common.{◌∙◌, ◌==◌, if◌then◌else◌, ap, sym,
 use Rattle.std.specs.List.{list_any}
 use Rattle.uac_entities.specs.declared.stream.Setting.{Setting}
 use Rattle.uac_alt.specs.AltStreams.{stream_of}
-use Rattle.uac_device.proofs.Asked.{number_is, unset}
+use Rattle.uac_device.proofs.StreamAskedLemmas.{number_is, unset}
 use Rattle.uac_device.proofs.streams.stream_in.Goals as goal
 
 pub returns-in-Some : goal.returns-in-Some

@@ -2,7 +2,7 @@ use Rattle.std.proofs.Common.{◌≡◌, ◌∙◌, ◌^◌, ◌<◌, ◌≤◌,
 use Rattle.uac_graph.specs.Wiring.{frame_on}
 use Rattle.uac_device_streams.specs.declared.ticking.Ticked.{Ticked}
 use Rattle.uac_device_streams.specs.InterfaceStreams.{bits_of}
-use Rattle.uac_device_streams.specs.DeviceStreams.{WiredIn, found_dry, found_full, ports, taken_on}
+use Rattle.uac_device_streams.specs.DeviceStreams.{IsWiredIn, is_found_dry, is_found_full, ports, stream_taken_on}
 use Rattle.uac_device_streams.proofs.DeviceStreamsFrameLemmas.{frames_all, frames_more}
 use Rattle.uac_device_streams.proofs.DeviceStreamsMetLemmas.{few_more, keeps_here, light, met_all, met_more, met_none, next_weight}
 use Rattle.uac_device_streams.proofs.DeviceStreamsChangeLemmas.{ports_turned, sound_turned, taken_keeps, turned_more, turned_none, untouched, untouched_port, untouched_sound}
@@ -15,8 +15,8 @@ loop-device_stream-init c = record {
   lengths = λ id. refl;
   inside = omega arith;
   weight = refl;
-  under = λ outs ins keeps. met_none (λ p. found_dry c.args.domain (outs p.interface) p) c.args.device_streams.now;
-  over = λ outs ins keeps. met_none (λ p. found_full c.args.domain (ins p.interface) p) c.args.device_streams.now;
+  under = λ outs ins keeps. met_none (λ p. is_found_dry c.args.domain (outs p.interface) p) c.args.device_streams.now;
+  over = λ outs ins keeps. met_none (λ p. is_found_full c.args.domain (ins p.interface) p) c.args.device_streams.now;
   few_under = omega arith;
   few_over = omega arith;
 }
@@ -28,7 +28,7 @@ begin-found-requires-clause-sound c =
 pub begin-found-requires-clause-wired : goal.begin-found-requires-clause-wired
 begin-found-requires-clause-wired c out =
     c.loop-device_stream.invariant.lengths (get_or c.loop-device_stream.device_streams c.loop-device_stream.device_stream-index c.device_stream-item.result).port.terminal
-    ∙ untouched_port (WiredIn c.args.wires.now) _ _ c.loop-device_stream.device_streams c.args.device_streams.now c.loop-device_stream.device_stream-index c.device_stream-item.result _ c.loop-device_stream.invariant.turned c.requires.wired
+    ∙ untouched_port (IsWiredIn c.args.wires.now) _ _ c.loop-device_stream.device_streams c.args.device_streams.now c.loop-device_stream.device_stream-index c.device_stream-item.result _ c.loop-device_stream.invariant.turned c.requires.wired
     (omega arith) refl out
 
 pub with_bit-under-requires : goal.with_bit-under-requires
@@ -56,7 +56,7 @@ loop-device_stream-preserved c =
     let read : l ≡ get_or old at d = untouched _ _ c.loop-device_stream.device_streams old at d c.loop-device_stream.invariant.turned in
     record {
       turned =
-          turned_more (taken_on c.args.domain) (λ p in_. in_) c.loop-device_stream.device_streams old at c.begin-found.new.self _ d (omega arith)
+          turned_more (stream_taken_on c.args.domain) (λ p in_. in_) c.loop-device_stream.device_streams old at c.begin-found.new.self _ d (omega arith)
           c.loop-device_stream.invariant.turned refl c.begin-found.ensures.turns c.begin-found.ensures.sound;
       frames = λ outs ins keeps id.
           frames_more c.args.domain old at d _ c.args.wires.now c.loop-device_stream.wires c.begin-found.new.wires outs ins id below read keeps c.begin-found.ensures.frame
@@ -65,11 +65,11 @@ loop-device_stream-preserved c =
       inside = omega (arith, below);
       weight = next_weight c.loop-device_stream.bit at c.loop-device_stream.invariant.weight;
       under = λ outs ins keeps.
-          met_more (λ p. found_dry c.args.domain (outs p.interface) p) old at d l c.begin-found.result.dry c.loop-device_stream.under c.loop-device_stream.bit c.with_bit-under.result below read
+          met_more (λ p. is_found_dry c.args.domain (outs p.interface) p) old at d l c.begin-found.result.dry c.loop-device_stream.under c.loop-device_stream.bit c.with_bit-under.result below read
           (c.begin-found.ensures.dry (outs l.port.interface) (ins l.port.interface) (keeps_here old outs ins at d l keeps below read))
           c.loop-device_stream.invariant.weight (c.loop-device_stream.invariant.under outs ins keeps) c.with_bit-under.ensures;
       over = λ outs ins keeps.
-          met_more (λ p. found_full c.args.domain (ins p.interface) p) old at d l c.begin-found.result.full c.loop-device_stream.over c.loop-device_stream.bit c.with_bit-over.result below read
+          met_more (λ p. is_found_full c.args.domain (ins p.interface) p) old at d l c.begin-found.result.full c.loop-device_stream.over c.loop-device_stream.bit c.with_bit-over.result below read
           (c.begin-found.ensures.full (outs l.port.interface) (ins l.port.interface) (keeps_here old outs ins at d l keeps below read))
           c.loop-device_stream.invariant.weight (c.loop-device_stream.invariant.over outs ins keeps) c.with_bit-over.ensures;
       few_under = few_more c.loop-device_stream.under c.loop-device_stream.bit c.with_bit-under.result c.begin-found.result.dry c.loop-device_stream.invariant.few_under c.with_bit-under.ensures;
@@ -91,9 +91,9 @@ returns-clause-met c outs ins keeps =
     let past : length c.args.device_streams.now ≤ c.loop-device_stream.device_stream-index = omega (arith, c.loop-device_stream.invariant.turned.same) in
     c.bits_met.ensures
     ∙ ap (λ (n : ℕ). let t : Ticked = record { under = n; over = c.loop-device_stream.over } in t)
-    (met_all (λ p. found_dry c.args.domain (outs p.interface) p) c.args.device_streams.now c.loop-device_stream.device_stream-index c.loop-device_stream.under past (c.loop-device_stream.invariant.under outs ins keeps))
-    ∙ ap (λ (n : ℕ). let t : Ticked = record { under = bits_of (map (λ p. found_dry c.args.domain (outs p.interface) p) (ports c.args.device_streams.now)); over = n } in t)
-    (met_all (λ p. found_full c.args.domain (ins p.interface) p) c.args.device_streams.now c.loop-device_stream.device_stream-index c.loop-device_stream.over past (c.loop-device_stream.invariant.over outs ins keeps))
+    (met_all (λ p. is_found_dry c.args.domain (outs p.interface) p) c.args.device_streams.now c.loop-device_stream.device_stream-index c.loop-device_stream.under past (c.loop-device_stream.invariant.under outs ins keeps))
+    ∙ ap (λ (n : ℕ). let t : Ticked = record { under = bits_of (map (λ p. is_found_dry c.args.domain (outs p.interface) p) (ports c.args.device_streams.now)); over = n } in t)
+    (met_all (λ p. is_found_full c.args.domain (ins p.interface) p) c.args.device_streams.now c.loop-device_stream.device_stream-index c.loop-device_stream.over past (c.loop-device_stream.invariant.over outs ins keeps))
 
 pub returns-clause-stands : goal.returns-clause-stands
 returns-clause-stands c =

@@ -1,5 +1,5 @@
 use Rattle.std.proofs.Common.{arith, refl}
-use Rattle.uac_device_streams.specs.DeviceStreams.{counted_on}
+use Rattle.uac_device_streams.specs.DeviceStreams.{stream_counted_on}
 use Rattle.uac_device_streams.proofs.DeviceStreamsChangeLemmas.{counted_keeps, ports_turned, sound_turned, turned_more, turned_none, untouched_sound}
 use Rattle.uac_device_streams.proofs.ticking.count.Goals as goal
 
@@ -12,7 +12,7 @@ count-requires c =
 
 pub loop-device_stream-preserved : goal.loop-device_stream-preserved
 loop-device_stream-preserved c =
-    turned_more (counted_on c.args.domain c.args.ticks) (λ p in_. in_) c.loop-device_stream.device_streams c.args.device_streams.now c.loop-device_stream.device_stream-index c.count.new.self _ c.device_stream-item.result (omega arith)
+    turned_more (stream_counted_on c.args.domain c.args.ticks) (λ p in_. in_) c.loop-device_stream.device_streams c.args.device_streams.now c.loop-device_stream.device_stream-index c.count.new.self _ c.device_stream-item.result (omega arith)
     c.loop-device_stream.invariant refl c.count.ensures.turns c.count.ensures.sound
 
 pub returns-clause-stands : goal.returns-clause-stands

@@ -1,6 +1,6 @@
 use Rattle.std.proofs.Common.{arith, refl}
 use Rattle.uac_graph.specs.Wiring.{samples_on}
-use Rattle.uac_device_streams.specs.DeviceStreams.{WiredOut, put_on}
+use Rattle.uac_device_streams.specs.DeviceStreams.{IsWiredOut, stream_put_on}
 use Rattle.uac_device_streams.proofs.DeviceStreamsChangeLemmas.{put_keeps, ports_turned, sound_turned, turned_more, turned_none, untouched_port, untouched_sound}
 use Rattle.uac_device_streams.proofs.ticking.put.Goals as goal
 
@@ -13,11 +13,11 @@ put-requires-clause-sound c =
 
 pub put-requires-clause-wired : goal.put-requires-clause-wired
 put-requires-clause-wired c =
-    untouched_port (WiredOut c.args.wires.now) _ _ c.loop-device_stream.device_streams c.args.device_streams.now c.loop-device_stream.device_stream-index c.device_stream-item.result _ c.loop-device_stream.invariant c.requires.wired (omega arith) refl
+    untouched_port (IsWiredOut c.args.wires.now) _ _ c.loop-device_stream.device_streams c.args.device_streams.now c.loop-device_stream.device_stream-index c.device_stream-item.result _ c.loop-device_stream.invariant c.requires.wired (omega arith) refl
 
 pub loop-device_stream-preserved : goal.loop-device_stream-preserved
 loop-device_stream-preserved c =
-    turned_more (λ p out. out) (λ p in_. put_on c.args.domain (samples_on c.args.wires.now p.terminal) p in_) c.loop-device_stream.device_streams c.args.device_streams.now c.loop-device_stream.device_stream-index c.put.new.self _
+    turned_more (λ p out. out) (λ p in_. stream_put_on c.args.domain (samples_on c.args.wires.now p.terminal) p in_) c.loop-device_stream.device_streams c.args.device_streams.now c.loop-device_stream.device_stream-index c.put.new.self _
     c.device_stream-item.result (omega arith) c.loop-device_stream.invariant refl c.put.ensures.turns c.put.ensures.sound
 
 pub returns-clause-stands : goal.returns-clause-stands

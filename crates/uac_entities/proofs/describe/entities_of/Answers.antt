@@ -2,7 +2,7 @@ use Rattle.std.proofs.Common.{◌≡◌, ◌++◌, List, Option, get_or, take, s
 use Rattle.std.specs.Option.{option_to_list}
 use Rattle.uac_entities.specs.declared.entity.Entity.{Entity}
 use Rattle.uac_entities.specs.Entities.{entity_of, entities_of}
-use Rattle.uac_entities.proofs.Kept.{filter_map_more}
+use Rattle.uac_entities.proofs.ListFilterLemmas.{filter_map_more}
 use Rattle.uac_entities.proofs.describe.entities_of.Goals as goal
 
 pub loop-block-preserved : goal.loop-block-preserved

@@ -3,7 +3,7 @@ use Rattle.std.specs.Option.{option_to_list}
 use Rattle.std.specs.List.{filter_map}
 use Rattle.uac_entities.specs.declared.stream.StreamInterface.{StreamInterface}
 use Rattle.uac_entities.specs.EntityInterfaces.{streaming_interface_at}
-use Rattle.uac_entities.proofs.Kept.{filter_map_more, blank}
+use Rattle.uac_entities.proofs.ListFilterLemmas.{filter_map_more, blank}
 use Rattle.uac_entities.proofs.interfaces.streaming_interfaces_of.Goals as goal
 
 pub loop-declared-preserved : goal.loop-declared-preserved

@@ -9,19 +9,19 @@ use Rattle.uac_entities.proofs.EntitySettingsLemmas.{alternates_at, alternates_e
 use Rattle.uac_entities.proofs.settings.declared_settings.Goals as goal
 use Rattle.uac_entities.proofs.settings.declared_settings.Goals.{in-Interface+in_ok-keep, in_default}
 
-pub loop-place-preserved : goal.loop-place-preserved
-loop-place-preserved c =
-    let l = c.loop-place in
+pub loop-index-preserved : goal.loop-index-preserved
+loop-index-preserved c =
+    let l = c.loop-index in
     let xs = c.args.blocks.now in
-    let b = c.index-blocks-place.result in
-    let rest = drop (l.place + 1) xs in
-    let one : declared_settings (drop l.place xs) ≡ option_to_list (declared_setting_at b rest) ++ declared_settings rest =
-    alternates_at xs l.place b c.loop-place-test.true c.index-blocks-place.is in
+    let b = c.index-blocks-index.result in
+    let rest = drop (l.index + 1) xs in
+    let one : declared_settings (drop l.index xs) ≡ option_to_list (declared_setting_at b rest) ++ declared_settings rest =
+    alternates_at xs l.index b c.loop-index-test.true c.index-blocks-index.is in
     let whole = ap (λ (ys : List DeclaredSetting). l.all.items ++ ys) (sym one) ∙ l.invariant in
     elim c.match-block.branch [
       | in-Interface+in_ok-keep w ↦
           (let here : w.declared_setting_at-declared.result ≡ declared_setting_at b rest =
-          w.declared_setting_at-declared.ensures ∙ ap (declared_setting_at (row.Interface w.in-Interface.interface)) (take_rest xs (l.place + 1))
+          w.declared_setting_at-declared.ensures ∙ ap (declared_setting_at (row.Interface w.in-Interface.interface)) (take_rest xs (l.index + 1))
           ∙ ap (λ (this : block.Block). declared_setting_at this rest) (sym w.in-Interface.is) in
           ap (λ all. all.items ++ declared_settings rest) w.all-is
           ∙ ap (λ (ys : List DeclaredSetting). ys ++ declared_settings rest)
@@ -36,7 +36,7 @@ loop-place-preserved c =
 
 pub returns : goal.returns
 returns c =
-    let l = c.loop-place in
+    let l = c.loop-index in
     sym (append-nil l.all.items)
-    ∙ ap (λ (ys : List DeclaredSetting). l.all.items ++ ys) (sym (alternates_end c.args.blocks.now l.place c.loop-place-test.false))
+    ∙ ap (λ (ys : List DeclaredSetting). l.all.items ++ ys) (sym (alternates_end c.args.blocks.now l.index c.loop-index-test.false))
     ∙ l.invariant

@@ -1,6 +1,6 @@
 use Rattle.std.proofs.Common.{arith, rules, drop}
 use Rattle.std.proofs.lemmas.Grind.{common_steps}
-use Rattle.uac_gen.proofs.LineMoves.{byte_written, newline_moved, bytes_moved}
+use Rattle.uac_gen.proofs.CopyRestLemmas.{byte_written, newline_moved, bytes_moved}
 use Rattle.uac_gen.proofs.source.copy_rest.Goals as goal
 
 pub returns-then-at-line-2-clause-moved : goal.returns-then-at-line-2-clause-moved

@@ -1,5 +1,5 @@
 use Rattle.std.proofs.Common.{refl}
-use Rattle.uac_grammar.proofs.Verdicts.{piece_is, short_shows}
+use Rattle.uac_grammar.proofs.VerdictLemmas.{piece_is, short_shows}
 use Rattle.uac_grammar.proofs.judge.judge.Goals as goal
 
 pub returns-then-length-lt2 : goal.returns-then-length-lt2

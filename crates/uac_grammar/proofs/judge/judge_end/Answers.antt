@@ -1,6 +1,6 @@
 use Rattle.std.proofs.Common.{sym, ◌∙◌, arith}
 use Rattle.std.proofs.lemmas.List.{nil_from_length}
-use Rattle.uac_grammar.proofs.Verdicts.{pending_faults, end_breaks, end_fine}
+use Rattle.uac_grammar.proofs.VerdictLemmas.{pending_faults, end_breaks, end_fine}
 use Rattle.uac_grammar.proofs.judge.judge_end.Goals as goal
 
 pub returns-then-pending-gt0 : goal.returns-then-pending-gt0

@@ -1,6 +1,6 @@
 use Rattle.std.proofs.Common.{ℕ, refl, sym, ap, ◌∙◌}
 use Rattle.uac_sentence.specs.Grammar.{rule_broken}
-use Rattle.uac_grammar.proofs.Verdicts.{broken_shows}
+use Rattle.uac_grammar.proofs.VerdictLemmas.{broken_shows}
 use Rattle.uac_grammar.proofs.judge.keep_block.Goals as goal
 
 pub returns-in-Some : goal.returns-in-Some

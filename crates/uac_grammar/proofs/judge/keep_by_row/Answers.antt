@@ -1,5 +1,5 @@
 use Rattle.std.proofs.Common.{refl, sym}
-use Rattle.uac_grammar.proofs.Verdicts.{unread_shows}
+use Rattle.uac_grammar.proofs.VerdictLemmas.{unread_shows}
 use Rattle.uac_grammar.proofs.judge.keep_by_row.Goals as goal
 
 pub returns-in-Ok-None : goal.returns-in-Ok-None

@@ -1,4 +1,4 @@
-use Rattle.uac_grammar.proofs.Readings.{shown_stop_stays, shown_stop_first}
+use Rattle.uac_grammar.proofs.ReaderKeptLemmas.{shown_stop_stays, shown_stop_first}
 use Rattle.uac_grammar.proofs.laws.shown_stops_stay.Goals as goal
 use Rattle.std.proofs.Common.{◌++◌}
 

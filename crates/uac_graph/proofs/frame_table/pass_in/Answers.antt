@@ -3,7 +3,7 @@ use Rattle.std.proofs.lemmas.Int.{to_z-of_z}
 use Rattle.std.specs.Option.{option_map}
 use Rattle.std.proofs.lemmas.List.{get_or_default}
 use Rattle.arrayvec.specs.declared.array_vec.ArrayVec.{ArrayVec}
-use Rattle.uac_graph.proofs.Copying.{two_samples, read_and_written}
+use Rattle.uac_graph.proofs.FrameRowsSampleLemmas.{two_samples, read_and_written}
 use Rattle.uac_graph.proofs.frame_table.pass_in.Goals as goal
 
 pub returns-then-channels-eq2 : goal.returns-then-channels-eq2
@@ -16,7 +16,7 @@ returns-then-channels-eq2 c =
     let left = c.sample_of-left in
     let right = c.sample_of-right in
     ap (set row c.args.to)
-    (read_and_written (get_or row from None) (get_or row c.args.to None) c.write_two.new.place (left.result ∷ right.result ∷ []) _
+    (read_and_written (get_or row from None) (get_or row c.args.to None) c.write_two.new.slot (left.result ∷ right.result ∷ []) _
     (two_samples (samples (get_or row from None)) left.result right.result
     (ap length (read c.index-row-from.result) ∙ sym c.channels_at-channels.ensures ∙ c.if-channels-eq2.true)
     (left.ensures ∙ ap (λ l. get_or l 0 (pos 0)) (sym (read c.index-row-from-then-channels-eq2.result)))

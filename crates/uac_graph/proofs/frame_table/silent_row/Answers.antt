@@ -6,9 +6,9 @@ use Rattle.uac_entities.specs.declared.entity.Entity.{Entity}
 use Rattle.uac_topology_rules.specs.Links.{is_clock}
 use Rattle.uac_graph.specs.FrameRows.{numbered_frames}
 use Rattle.uac_graph.specs.Wiring.{Frames, frame_on, silence}
-use Rattle.uac_topology_rules.proofs.TableSteps.{at_read}
-use Rattle.uac_graph.proofs.Lookups.{AreSilentBelow, silent_all, silent_clock, silent_none, silent_wire}
-use Rattle.uac_graph.proofs.RowsById.{frame_written, frames_none}
+use Rattle.uac_topology_rules.proofs.TableIdLemmas.{at_read}
+use Rattle.uac_graph.proofs.WiringLemmas.{AreSilentBelow, silent_all, silent_clock, silent_none, silent_wire}
+use Rattle.uac_graph.proofs.FrameRowsLemmas.{frame_written, frames_none}
 use Rattle.uac_graph.proofs.frame_table.silent_row.Goals as goal
 
 pub loop-entity-init : goal.loop-entity-init

@@ -1,7 +1,7 @@
 use Rattle.std.proofs.Common.{◌≡◌, length, map}
 use Rattle.std.specs.Option.{option_map}
 use Rattle.uac_graph.specs.FrameRows.{numbered_frames}
-use Rattle.uac_graph.proofs.Lookups.{AreSilentBelow}
+use Rattle.uac_graph.proofs.WiringLemmas.{AreSilentBelow}
 use Rattle.uac_graph.proofs.frame_table.silent_row.Given as goal
 
 abbrev pub invariant-loop-entity : goal.invariant-loop-entity

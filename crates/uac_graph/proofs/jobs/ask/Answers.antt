@@ -1,6 +1,6 @@
 use Rattle.std.proofs.Common.{sym, subst, arith, ◌≤◌, ℕ}
 use Rattle.uac_graph.specs.Jobs.{gain_count}
-use Rattle.uac_graph.proofs.Asking.{gains_few, inputs_few, is_asked, sources_few}
+use Rattle.uac_graph.proofs.JobsLemmas.{gains_few, inputs_few, is_asked, sources_few}
 use Rattle.uac_graph.proofs.jobs.ask.Goals as goal
 
 pub returns-then-entity-eq0 : goal.returns-then-entity-eq0

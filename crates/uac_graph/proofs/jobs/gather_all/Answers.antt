@@ -2,7 +2,7 @@ use Rattle.std.proofs.Common.{◌≡◌, ◌∙◌, ap, arith, sym, [], ℕ, get
 use Rattle.std.specs.Option.{option_map}
 use Rattle.std.proofs.lemmas.List.{append-nil, length-take-le}
 use Rattle.uac_graph.specs.Wiring.{samples_on}
-use Rattle.uac_graph.proofs.Rows.{row_fits, row_more}
+use Rattle.uac_graph.proofs.RenderingLemmas.{row_fits, row_more}
 use Rattle.uac_graph.proofs.jobs.gather_all.Goals as goal
 use Rattle.uac_graph.proofs.jobs.gather_all.Goals.{in-Some, in_default}
 

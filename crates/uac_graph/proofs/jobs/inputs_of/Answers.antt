@@ -2,7 +2,7 @@ use Rattle.std.proofs.Common.{◌∙◌, ap, sym, arith, sum_by, take_all}
 use Rattle.std.proofs.lemmas.List.Sums.{sum-map, sum_by_more}
 use Rattle.uac_entities.specs.EntityInterfaces.{channels_of}
 use Rattle.uac_store.specs.StoreControls.{pins_of}
-use Rattle.uac_store.proofs.Starting.{inputs_within}
+use Rattle.uac_store.proofs.StoreControlsStartLemmas.{inputs_within}
 use Rattle.uac_graph.proofs.jobs.inputs_of.Goals as goal
 
 pub overflow_add-inputs : goal.overflow_add-inputs

@@ -1,6 +1,6 @@
 use Rattle.std.proofs.Common.{refl, []}
 use Rattle.std.proofs.lemmas.Bool.{ne_eqb}
-use Rattle.uac_graph.proofs.Ordering.{none_more, order_at, order_of_none}
+use Rattle.uac_graph.proofs.OrdersLemmas.{none_more, order_at, order_of_none}
 use Rattle.uac_graph.proofs.orders.order_for.Goals as goal
 
 pub loop-order-init : goal.loop-order-init

@@ -1,14 +1,14 @@
 use Rattle.std.proofs.Common.{◌∙◌, ap, sym, subst, ℕ, Vec, Global}
-use Rattle.uac_graph.specs.Orders.{IsRenderOrder, holds}
-use Rattle.uac_graph.proofs.Ordering.{ends_all, ends_more, ends_same, held_none, order_none}
-use Rattle.uac_graph.proofs.Ticking.{end_signal, end_stops}
+use Rattle.uac_graph.specs.Orders.{IsRenderOrder, has_id}
+use Rattle.uac_graph.proofs.OrdersLemmas.{ends_all, ends_more, ends_same, held_none, order_none}
+use Rattle.uac_graph.proofs.WiringTerminalLemmas.{end_signal, end_stops}
 use Rattle.uac_graph.proofs.orders.order_of.Goals as goal
 use Rattle.uac_graph.proofs.orders.order_of.Goals.{then-is_end+in_ok-visit, else-is_end}
 
 pub loop-entity-init : goal.loop-entity-init
 loop-entity-init c = record {
-  order = order_none c.args.table.now c.new-places.result.items c.new-places.ensures.items;
-  all = λ k. held_none c.args.table.now c.new-places.result.items k c.new-places.ensures.items;
+  order = order_none c.args.table.now c.new-indices.result.items c.new-indices.ensures.items;
+  all = λ k. held_none c.args.table.now c.new-indices.result.items k c.new-indices.ensures.items;
 }
 
 pub visit-requires-clause-signal : goal.visit-requires-clause-signal
@@ -34,23 +34,23 @@ loop-entity-preserved c =
     elim c.if-is_end.branch [
       | then-is_end+in_ok-visit w ↦
           record {
-            order = subst (λ (v : Vec ℕ Global). IsRenderOrder entities v.items) (sym w.places-is) w.in_ok-visit.ensures.order;
+            order = subst (λ (v : Vec ℕ Global). IsRenderOrder entities v.items) (sym w.indices-is) w.in_ok-visit.ensures.order;
             all =
-                ends_more entities slice domain i c.entity-item.result c.loop-entity.places.items c.if-is_end.places.items c.as_slice-entities.ensures
+                ends_more entities slice domain i c.entity-item.result c.loop-entity.indices.items c.if-is_end.indices.items c.as_slice-entities.ensures
                 c.loop-entity-test.true c.entity-item.is (sym c.is_end.ensures ∙ w.if-is_end.true) all
-                (λ k. ap (λ (v : Vec ℕ Global). holds entities v.items k) w.places-is ∙ w.in_ok-visit.ensures.all k);
+                (λ k. ap (λ (v : Vec ℕ Global). has_id entities v.items k) w.indices-is ∙ w.in_ok-visit.ensures.all k);
           }
       | else-is_end w ↦
           record {
-            order = subst (λ (v : Vec ℕ Global). IsRenderOrder entities v.items) (sym w.places-is) c.loop-entity.invariant.order;
+            order = subst (λ (v : Vec ℕ Global). IsRenderOrder entities v.items) (sym w.indices-is) c.loop-entity.invariant.order;
             all =
-                ends_same entities slice domain i c.entity-item.result c.if-is_end.places.items c.as_slice-entities.ensures
+                ends_same entities slice domain i c.entity-item.result c.if-is_end.indices.items c.as_slice-entities.ensures
                 c.loop-entity-test.true c.entity-item.is (sym c.is_end.ensures ∙ w.if-is_end.false)
-                (λ k. ap (λ (v : Vec ℕ Global). holds entities v.items k) w.places-is ∙ all k);
+                (λ k. ap (λ (v : Vec ℕ Global). has_id entities v.items k) w.indices-is ∙ all k);
           }
     ]
 
 pub returns : goal.returns
 returns c =
-    ends_all c.args.table.now c.as_slice-entities.result.now c.args.domain c.loop-entity.entity-index c.loop-entity.places.items
+    ends_all c.args.table.now c.as_slice-entities.result.now c.args.domain c.loop-entity.entity-index c.loop-entity.indices.items
     c.as_slice-entities.ensures c.loop-entity-test.false c.loop-entity.invariant.order c.loop-entity.invariant.all

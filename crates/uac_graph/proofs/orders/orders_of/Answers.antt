@@ -1,7 +1,7 @@
 use Rattle.std.proofs.Common.{◌≡◌, ◌==◌, ◌∙◌, sym, subst, arith, List, true, false}
 use Rattle.std.specs.List.{list_any}
 use Rattle.uac_graph.specs.declared.orders.Order.{Order}
-use Rattle.uac_graph.proofs.Ordering.{each_more, each_none, known_last, known_more, orders_all, passed_more}
+use Rattle.uac_graph.proofs.OrdersLemmas.{each_more, each_none, known_last, known_more, orders_all, passed_more}
 use Rattle.uac_graph.proofs.orders.orders_of.Goals as goal
 use Rattle.uac_graph.proofs.orders.orders_of.Goals.{then-not-is_output-via-then-not-is_output, then-not-is_output-via-else-not-is_output+then-has_order}
 

@@ -1,6 +1,6 @@
 use Rattle.std.proofs.Common.{◌∙◌, w32}
 use Rattle.std.proofs.lemmas.Int.{to_z-of_z}
-use Rattle.uac_graph.proofs.Copying.{one_written, two_written}
+use Rattle.uac_graph.proofs.FrameRowsSampleLemmas.{one_written, two_written}
 use Rattle.uac_graph.proofs.samples.write_over.Goals as goal
 
 pub returns-then-samples-eq1 : goal.returns-then-samples-eq1

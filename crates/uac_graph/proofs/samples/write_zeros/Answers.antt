@@ -1,4 +1,4 @@
-use Rattle.uac_graph.proofs.Copying.{one_hushed, two_hushed}
+use Rattle.uac_graph.proofs.FrameRowsSampleLemmas.{one_hushed, two_hushed}
 use Rattle.uac_graph.proofs.samples.write_zeros.Goals as goal
 
 pub returns-then-samples-eq1 : goal.returns-then-samples-eq1

@@ -1,6 +1,6 @@
 use Rattle.std.proofs.Common.{◌∙◌, ap, sym, length, get_or, ◌∷◌, []}
 use Rattle.uac_graph.specs.Tasks.{work_by}
-use Rattle.uac_graph.proofs.CarriedOut.{works_many, works_none, works_one}
+use Rattle.uac_graph.proofs.TasksLemmas.{works_many, works_none, works_one}
 use Rattle.uac_graph.proofs.tasks.work_of.Goals as goal
 
 pub returns-then-entity-eq0 : goal.returns-then-entity-eq0

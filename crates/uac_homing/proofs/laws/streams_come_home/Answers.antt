@@ -1,5 +1,5 @@
-use Rattle.uac_homing.proofs.TrailedRuns.{calls_stay_trailed, microframes_stay_trailed, runs_start_trailed}
-use Rattle.uac_homing.proofs.TrailedTransfers.{transfers_stay_trailed}
+use Rattle.uac_homing.proofs.HomingLemmas.{calls_stay_trailed, microframes_stay_trailed, runs_start_trailed}
+use Rattle.uac_homing.proofs.HomingTransferLemmas.{transfers_stay_trailed}
 use Rattle.uac_homing.proofs.laws.streams_come_home.Goals as goal
 
 pub returns-clause-start : goal.returns-clause-start

@@ -1,4 +1,4 @@
-use Rattle.uac_mixer.proofs.Agreed.{stays_known}
+use Rattle.uac_mixer.proofs.AgreementLemmas.{stays_known}
 use Rattle.uac_mixer.proofs.laws.known_values_stay.Goals as goal
 
 pub returns : goal.returns

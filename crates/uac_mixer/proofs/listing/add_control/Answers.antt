@@ -1,4 +1,4 @@
-use Rattle.uac_mixer.proofs.Members.{channel_more}
+use Rattle.uac_mixer.proofs.MixerElementsListLemmas.{channel_more}
 use Rattle.uac_mixer.proofs.listing.add_control.Goals as goal
 
 pub loop-channel-preserved : goal.loop-channel-preserved

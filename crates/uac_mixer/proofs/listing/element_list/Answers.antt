@@ -1,4 +1,4 @@
-use Rattle.uac_mixer.proofs.Members.{small_at}
+use Rattle.uac_mixer.proofs.MixerElementsListLemmas.{small_at}
 use Rattle.uac_mixer.proofs.listing.element_list.Goals as goal
 
 pub add_entity-requires : goal.add_entity-requires

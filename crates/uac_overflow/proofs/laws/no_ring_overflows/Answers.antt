@@ -1,5 +1,5 @@
-use Rattle.uac_overflow.proofs.Recorded.{microframes_stay_recorded, rings_hold_an_interval}
-use Rattle.uac_overflow.proofs.Transferring.{calls_stay_recorded, runs_start_recorded, transfers_stay_recorded}
+use Rattle.uac_overflow.proofs.RecordingLemmas.{microframes_stay_recorded, rings_hold_an_interval}
+use Rattle.uac_overflow.proofs.RecordingTransferLemmas.{calls_stay_recorded, runs_start_recorded, transfers_stay_recorded}
 use Rattle.uac_overflow.proofs.laws.no_ring_overflows.Goals as goal
 
 pub returns-clause-start : goal.returns-clause-start

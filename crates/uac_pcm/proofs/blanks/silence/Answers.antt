@@ -1,6 +1,6 @@
 use Rattle.std.proofs.Common.{◌≡◌, ◌≤◌, ◌+◌, ◌∙◌, ◌++◌, ℕ, ℤ, pos, List, length, take, replicate, ap, arith}
 use Rattle.std.proofs.lemmas.List.{length-take-le, take-replicate}
-use Rattle.uac_pcm.proofs.Packing.{where_ok}
+use Rattle.uac_pcm.proofs.FramesLemmas.{where_ok}
 use Rattle.uac_pcm.proofs.blanks.silence.Goals as goal
 
 pub returns-else-channels-eq2-clause-samples : goal.returns-else-channels-eq2-clause-samples

@@ -1,6 +1,6 @@
 use Rattle.std.proofs.Common.{ℕ, ◌++◌, ap, ◌∙◌, sym}
 use Rattle.uac_pcm.specs.Frames.{bytes_of_frame, frame_of_bytes}
-use Rattle.uac_pcm.proofs.Packing.{frame_of_bytes-bytes_of_frame, length-bytes_of_frame}
+use Rattle.uac_pcm.proofs.FramesLemmas.{frame_of_bytes-bytes_of_frame, length-bytes_of_frame}
 use Rattle.uac_pcm.proofs.laws.frame_is_read_back.Goals as goal
 
 pub returns : goal.returns

@@ -1,7 +1,7 @@
 use Rattle.std.proofs.Common.{rules, arith, ◌∙◌, ◌≡◌, ◌-◌, ◌+◌, ◌*◌, ap, ℕ, take, drop, FitsSigned, w32}
 use Rattle.std.proofs.lemmas.Int.{to_z-of_z}
 use Rattle.std.proofs.lemmas.List.{length-set}
-use Rattle.uac_pcm.proofs.Packing.{sample_read}
+use Rattle.uac_pcm.proofs.FramesLemmas.{sample_read}
 use Rattle.uac_pcm.proofs.subslots.read_each.Goals as goal
 
 pub loop-place-preserved : goal.loop-place-preserved

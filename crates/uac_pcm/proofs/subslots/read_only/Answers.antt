@@ -1,6 +1,6 @@
 use Rattle.std.proofs.Common.{rules, ◌∙◌, ap, ℤ, FitsSigned, w32, slice_set}
 use Rattle.std.proofs.lemmas.Int.{to_z-of_z}
-use Rattle.uac_pcm.proofs.Packing.{only_read}
+use Rattle.uac_pcm.proofs.FramesLemmas.{only_read}
 use Rattle.uac_pcm.proofs.subslots.read_only.Goals as goal
 
 pub returns : goal.returns

@@ -1,7 +1,7 @@
 use Rattle.std.proofs.Common.{rules, ◌≡◌, ◌∙◌, ap, ℕ, ℤ, List, drop, take, to_z, of_z, FitsSigned, w32, slice_set}
 use Rattle.std.proofs.lemmas.Int.{to_z-of_z}
 use Rattle.uac_pcm.specs.Subslots.{sample_of_subslot}
-use Rattle.uac_pcm.proofs.Packing.{pair_read}
+use Rattle.uac_pcm.proofs.FramesLemmas.{pair_read}
 use Rattle.uac_pcm.proofs.subslots.read_pair.Goals as goal
 
 pub returns : goal.returns

@@ -3,7 +3,7 @@ use Rattle.std.proofs.Common.{◌≡◌, ℕ, ◌-◌, ◌*◌, ◌^◌, w32, Fi
 use Rattle.std.proofs.lemmas.Int.{to_z-of_z}
 use Rattle.byteorder.specs.Endian.{little_number}
 use Rattle.uac_pcm.specs.Subslots.{cut_to, wrap, sample_of_subslot}
-use Rattle.uac_pcm.proofs.Wrapping.{int_wrap-pos}
+use Rattle.uac_pcm.proofs.TonesWrapLemmas.{int_wrap-pos}
 use Rattle.uac_pcm.proofs.subslots.sample_of.Goals as goal
 
 pub returns : goal.returns

@@ -1,6 +1,6 @@
-use Rattle.uac_promises.proofs.AllScripts.{all_scripts_keep_promises}
-use Rattle.uac_promises.proofs.InARow.{one_more_line_is_kept}
-use Rattle.uac_promises.proofs.SeenLines.{lines_are_seen}
+use Rattle.uac_promises.proofs.PromisesLemmas.{all_scripts_keep_promises}
+use Rattle.uac_promises.proofs.PromisesRowLemmas.{one_more_line_is_kept}
+use Rattle.uac_promises.proofs.WatchesLemmas.{lines_are_seen}
 use Rattle.uac_promises.proofs.laws.steady_scripts_keep_promises.Goals as goal
 
 pub returns : goal.returns

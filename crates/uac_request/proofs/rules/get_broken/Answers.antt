@@ -2,7 +2,7 @@
 use Rattle.std.proofs.Common.{◌∙◌, sym}
 use Rattle.uac_request.specs.Owners.{owner_fields}
 use Rattle.uac_request.specs.Requests.{request_state}
-use Rattle.uac_request.proofs.Asked.{first_get}
+use Rattle.uac_request.proofs.RequestsRuleLemmas.{first_get}
 use Rattle.uac_request.proofs.rules.get_broken.Goals as goal
 
 pub returns-clause-broken : goal.returns-clause-broken

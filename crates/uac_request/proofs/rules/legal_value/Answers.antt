@@ -2,7 +2,7 @@
 use Rattle.std.proofs.Common.{◌≡◌, ◌≤◌, length, IsSome, FitsSigned, w32, subst, sym, rules}
 use Rattle.uac_store.specs.StoreValues.{is_legal}
 use Rattle.uac_request.specs.Requests.{is_signed, value_from}
-use Rattle.uac_request.proofs.Sent.{legal_fits, none_where_unfit}
+use Rattle.uac_request.proofs.RequestsSentLemmas.{legal_fits, none_where_unfit}
 use Rattle.uac_request.proofs.rules.legal_value.Goals as goal
 
 pub returns-in_default-clause-value : goal.returns-in_default-clause-value

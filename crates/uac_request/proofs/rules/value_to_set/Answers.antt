@@ -2,7 +2,7 @@
 use Rattle.std.proofs.Common.{◌≡◌, IfErr, IfOk, None, Some, subst, sym}
 use Rattle.uac_request.specs.Owners.{owner_fields}
 use Rattle.uac_request.specs.Requests.{request_state}
-use Rattle.uac_request.proofs.Asked.{first_set}
+use Rattle.uac_request.proofs.RequestsRuleLemmas.{first_set}
 use Rattle.uac_request.proofs.rules.value_to_set.Goals as goal
 
 pub returns-clause-broken : goal.returns-clause-broken

@@ -1,7 +1,7 @@
 use Rattle.std.proofs.Common.{◌≡◌, ◌∙◌, ◌+◌, ◌<◌, ◌≤◌, ℤ, List, [], ◌∷◌, ◌++◌, length, sym, ap, arith}
 use Rattle.std.proofs.lemmas.List.{length-append, length-map}
 use Rattle.std.proofs.lemmas.Option.{none-some, slice_get-get_or}
-use Rattle.uac_pcm.proofs.Packing.{where_ok}
+use Rattle.uac_pcm.proofs.FramesLemmas.{where_ok}
 use Rattle.uac_ring.proofs.RingsLemmas.{newest_seen, newest_turned}
 use Rattle.uac_ring.proofs.ring.fill.Goals as goal
 

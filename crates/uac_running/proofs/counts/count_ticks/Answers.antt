@@ -1,6 +1,6 @@
 use Rattle.std.proofs.Common.{arith}
 use Rattle.uac_running.specs.RunningKept.{more_counted}
-use Rattle.uac_device_streams.proofs.Turning.{turned_all, turned_more}
+use Rattle.uac_device_streams.proofs.ListChangeLemmas.{turned_all, turned_more}
 use Rattle.uac_running.proofs.counts.count_ticks.Goals as goal
 
 pub loop-count-preserved : goal.loop-count-preserved

@@ -1,5 +1,5 @@
 use Rattle.uac_running.specs.RunningKept.{more_counted}
-use Rattle.uac_device_streams.proofs.Turning.{IsTurnedBelow}
+use Rattle.uac_device_streams.proofs.ListChangeLemmas.{IsTurnedBelow}
 use Rattle.uac_running.proofs.counts.count_ticks.Given as goal
 
 abbrev pub invariant-loop-count : goal.invariant-loop-count

@@ -1,5 +1,5 @@
 use Rattle.std.proofs.Common.{arith}
-use Rattle.uac_running.proofs.JackSteps.{sounded_given}
+use Rattle.uac_running.proofs.RunningKeptJackLemmas.{sounded_given}
 use Rattle.uac_running.proofs.jacks.give_jack.Goals as goal
 
 pub returns-then-jack-domain-clause-stands : goal.returns-then-jack-domain-clause-stands

@@ -5,8 +5,8 @@ use Rattle.uac_graph.specs.Meaning.{entity}
 use Rattle.uac_device.specs.DeviceWorld.{is_input_jack}
 use Rattle.uac_running.specs.declared.jacks.Jack.{Jack}
 use Rattle.uac_running.specs.Events.{after_one}
-use Rattle.uac_device_streams.proofs.Turning.{turned_all, turned_more, untouched_holds}
-use Rattle.uac_running.proofs.JackSteps.{gives_next}
+use Rattle.uac_device_streams.proofs.ListChangeLemmas.{turned_all, turned_more, untouched_holds}
+use Rattle.uac_running.proofs.RunningKeptJackLemmas.{gives_next}
 use Rattle.uac_running.proofs.jacks.give_jacks.Goals as goal
 
 pub give_jack-requires-clause-kind : goal.give_jack-requires-clause-kind

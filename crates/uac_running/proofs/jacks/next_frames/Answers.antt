@@ -1,4 +1,4 @@
-use Rattle.uac_running.proofs.Resting.{given_again}
+use Rattle.uac_running.proofs.SilenceLemmas.{given_again}
 use Rattle.uac_running.proofs.jacks.next_frames.Goals as goal
 
 pub returns-then-rest-clause-stands : goal.returns-then-rest-clause-stands

@@ -2,7 +2,7 @@ use Rattle.std.proofs.Common.{List, subst}
 use Rattle.uac_transcript.specs.Transcript.{Said, says_played}
 use Rattle.uac_transcript.specs.Printing.{Prints}
 use Rattle.uac_transcript.proofs.PrintingLemmas.{Prints-line}
-use Rattle.uac_running.proofs.Printed.{none_played, said-played}
+use Rattle.uac_running.proofs.RunningLinesLemmas.{none_played, said-played}
 use Rattle.uac_running.proofs.printing.write_entity.Goals as goal
 
 pub returns-in-Some-clause-printed : goal.returns-in-Some-clause-printed

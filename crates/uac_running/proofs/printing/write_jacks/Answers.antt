@@ -7,7 +7,7 @@ use Rattle.uac_edges.specs.Writing.{AppendsFront}
 use Rattle.uac_transcript.specs.Transcript.{Said}
 use Rattle.uac_transcript.specs.Printing.{text_of}
 use Rattle.uac_transcript.proofs.PrintingLemmas.{front_of_some, some_lines_more}
-use Rattle.uac_running.proofs.Printed.{each-played, entity_of-own, of_entity}
+use Rattle.uac_running.proofs.RunningLinesLemmas.{each-played, entity_of-own, of_entity}
 use Rattle.uac_edges.proofs.WritingLemmas.{Writes-handed_on}
 use Rattle.uac_running.proofs.printing.write_jacks.Goals as goal
 

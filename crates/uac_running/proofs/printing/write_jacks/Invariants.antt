@@ -3,7 +3,7 @@ use Rattle.std.specs.Io.KnownBytes.{Appends}
 use Rattle.uac_device.specs.DeviceKept.{DeviceStands}
 use Rattle.uac_device.specs.DeviceWorld.{DeviceWorld}
 use Rattle.uac_transcript.specs.Printing.{text_of}
-use Rattle.uac_running.proofs.Printed.{of_entity}
+use Rattle.uac_running.proofs.RunningLinesLemmas.{of_entity}
 use Rattle.uac_running.proofs.printing.write_jacks.Given as goal
 
 abbrev pub invariant-loop-entity : goal.invariant-loop-entity

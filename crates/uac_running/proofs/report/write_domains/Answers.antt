@@ -2,7 +2,7 @@ use Rattle.std.proofs.Common.{refl, ◌∙◌}
 use Rattle.uac_device.specs.DeviceWorld.{resting_domain}
 use Rattle.uac_transcript.proofs.PrintingLemmas.{front_of_lines, one_line_more}
 use Rattle.uac_running.specs.RunningLines.{domain_line}
-use Rattle.uac_running.proofs.Printed.{below_domains, count_at}
+use Rattle.uac_running.proofs.RunningLinesLemmas.{below_domains, count_at}
 use Rattle.uac_edges.proofs.WritingLemmas.{Writes-handed_on}
 use Rattle.uac_running.proofs.report.write_domains.Goals as goal
 

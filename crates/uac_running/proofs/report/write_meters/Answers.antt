@@ -3,7 +3,7 @@ use Rattle.uac_units.specs.Hearing.{Reading}
 use Rattle.uac_units.specs.MeterReadings.{readings}
 use Rattle.uac_transcript.specs.Transcript.{says_meter}
 use Rattle.uac_transcript.proofs.PrintingLemmas.{front_of_lines, one_line_more}
-use Rattle.uac_running.proofs.Printed.{meter_at}
+use Rattle.uac_running.proofs.RunningLinesLemmas.{meter_at}
 use Rattle.uac_edges.proofs.WritingLemmas.{Writes-handed_on}
 use Rattle.uac_running.proofs.report.write_meters.Goals as goal
 

@@ -1,5 +1,5 @@
 use Rattle.std.proofs.Common.{rules}
-use Rattle.uac_running.proofs.ReadAtStart.{reading_stands}
+use Rattle.uac_running.proofs.ViewLinksLemmas.{reading_stands}
 use Rattle.uac_running.proofs.transfers.with_view.Goals as goal
 
 pub returns-in-Ok-clause-stands : goal.returns-in-Ok-clause-stands

@@ -1,6 +1,6 @@
 use Rattle.std.proofs.Common.{ap, ◌∙◌}
 use Rattle.std.specs.Result.{result_ok}
-use Rattle.uac_script.proofs.SetupBytes.{setup_is}
+use Rattle.uac_script.proofs.LineParsingSetupLemmas.{setup_is}
 use Rattle.uac_script.proofs.hex_bytes.setup.Goals as goal
 
 pub returns : goal.returns

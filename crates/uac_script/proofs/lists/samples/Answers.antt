@@ -3,7 +3,7 @@ use Rattle.std.proofs.lemmas.Bool.{and_parts}
 use Rattle.std.proofs.lemmas.Int.{to_z-of_z}
 use mir.Val.{SFits, to_z, of_z}
 use mir.Syntax.{w32}
-use Rattle.uac_script.proofs.GrowingLists.{next_taken, all_taken}
+use Rattle.uac_script.proofs.WordsListLemmas.{next_taken, all_taken}
 use Rattle.uac_script.specs.Phrase.{is_in_32_bits}
 use Rattle.uac_script.specs.ScriptNumerals.{value_of}
 use Rattle.std.specs.List.{list_all}

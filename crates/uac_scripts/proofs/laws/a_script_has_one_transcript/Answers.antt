@@ -1,4 +1,4 @@
-use Rattle.uac_scripts.proofs.Agreeing.{has_one_transcript}
+use Rattle.uac_scripts.proofs.ComputedLemmas.{has_one_transcript}
 use Rattle.uac_scripts.proofs.laws.a_script_has_one_transcript.Goals as goal
 
 pub returns : goal.returns

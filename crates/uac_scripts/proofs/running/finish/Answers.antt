@@ -1,5 +1,5 @@
 use Rattle.std.proofs.Common.{sym}
-use Rattle.uac_scripts.proofs.Following.{closes_finished, closes_unfinished}
+use Rattle.uac_scripts.proofs.RunLinesLemmas.{closes_finished, closes_unfinished}
 use Rattle.uac_scripts.proofs.running.finish.Goals as goal
 
 pub returns-in-Ok-clause-closed : goal.returns-in-Ok-clause-closed

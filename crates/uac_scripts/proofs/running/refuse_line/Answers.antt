@@ -1,6 +1,6 @@
 use Rattle.std.proofs.Common.{◌∙◌, refl}
 use Rattle.uac_bus.specs.declared.fault.BusFault.TheVariants as faults
-use Rattle.uac_scripts.proofs.Following.{closes_last}
+use Rattle.uac_scripts.proofs.RunLinesLemmas.{closes_last}
 use Rattle.uac_scripts.proofs.running.refuse_line.Goals as goal
 
 pub returns-in-Grammar-clause-closed : goal.returns-in-Grammar-clause-closed

@@ -3,8 +3,8 @@ use Rattle.uac_script.specs.ScriptLines.{Splitting}
 use Rattle.uac_units.specs.MeterReadings.{readings}
 use Rattle.uac_scripts.specs.Running.{stop_outcome}
 use Rattle.uac_scripts.specs.ScriptTranscript.{ending_at, last_line}
-use Rattle.uac_scripts.proofs.Following.{far_at_first, not_ended, has_line, far_on, failed_line, finished_run, stopped_run, left_faultless, stop_untold}
-use Rattle.uac_describe.proofs.Answering.{closes_faultless}
+use Rattle.uac_scripts.proofs.RunLinesLemmas.{far_at_first, not_ended, has_line, far_on, failed_line, finished_run, stopped_run, left_faultless, stop_untold}
+use Rattle.uac_describe.proofs.AnsweredLemmas.{closes_faultless}
 use Rattle.uac_scripts.proofs.running.run_lines.Goals as goal
 
 pub loop-bus-init : goal.loop-bus-init

@@ -1,7 +1,7 @@
 use Rattle.std.proofs.Common.{◌≡◌, ◌+◌, ◌≤◌}
 use Rattle.uac_units.specs.MeterReadings.{readings}
 use Rattle.uac_script.specs.ScriptLines.{most_of_input}
-use Rattle.uac_scripts.proofs.Following.{IsFar}
+use Rattle.uac_scripts.proofs.RunLinesLemmas.{IsFar}
 use Rattle.uac_scripts.proofs.running.run_lines.Given as goal
 
 abbrev pub invariant-loop-bus : goal.invariant-loop-bus

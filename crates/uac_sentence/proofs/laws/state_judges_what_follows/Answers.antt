@@ -1,5 +1,5 @@
 use Rattle.std.proofs.Common.{rules, subst, sym}
-use Rattle.uac_descriptor.specs.BlockReading.{AreBytes}
+use Rattle.uac_descriptor.specs.BlockParsing.{AreBytes}
 use Rattle.uac_sentence.specs.Sentence.{IsSentence}
 use Rattle.uac_sentence.proofs.ProgressLemmas.{block_read, read_faults, read_sentence}
 use Rattle.uac_sentence.proofs.laws.state_judges_what_follows.Goals as goal

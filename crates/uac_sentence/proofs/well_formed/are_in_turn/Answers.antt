@@ -1,7 +1,7 @@
 use Rattle.std.proofs.Common.{sym, ◌∙◌, refl}
 use Rattle.std.proofs.lemmas.Bool.{false≢true}
 use Rattle.uac_sentence.proofs.SentenceTurnLemmas.{turning_start}
-use Rattle.uac_sentence.proofs.WellFormedLemmas.{turn_on, turn_stops, turn_ends}
+use Rattle.uac_sentence.proofs.SentenceWellFormedLemmas.{turn_on, turn_stops, turn_ends}
 use Rattle.uac_sentence.proofs.well_formed.are_in_turn.Goals as goal
 use Rattle.uac_sentence.proofs.well_formed.are_in_turn.Goals.{then-not-has_flag-via-then-not-has_flag, then-not-has_flag-via-else-not-has_flag+then-not-is_in_turn}
 

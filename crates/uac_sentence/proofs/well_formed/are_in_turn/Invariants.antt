@@ -1,5 +1,5 @@
 use Rattle.std.proofs.Common.{drop}
-use Rattle.uac_sentence.proofs.WellFormedLemmas.{IsTurning}
+use Rattle.uac_sentence.proofs.SentenceWellFormedLemmas.{IsTurning}
 use Rattle.uac_sentence.proofs.well_formed.are_in_turn.Given as goal
 
 abbrev pub invariant-loop-block : goal.invariant-loop-block

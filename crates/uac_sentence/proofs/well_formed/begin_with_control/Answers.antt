@@ -1,7 +1,7 @@
 use Rattle.std.proofs.Common.{sym, ◌∙◌, ap, refl}
 use Rattle.std.proofs.lemmas.Bool.{false≢true}
 use Rattle.uac_sentence.specs.Grammar.{is_control, is_audio_interface}
-use Rattle.uac_sentence.proofs.WellFormedLemmas.{control_at, control_on, control_back, control_stops, control_ends}
+use Rattle.uac_sentence.proofs.SentenceWellFormedLemmas.{control_at, control_on, control_back, control_stops, control_ends}
 use Rattle.uac_sentence.proofs.well_formed.begin_with_control.Goals as goal
 
 pub loop-block-init : goal.loop-block-init

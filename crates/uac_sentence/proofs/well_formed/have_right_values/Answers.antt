@@ -2,7 +2,7 @@ use Rattle.std.proofs.Common.{drop, sym, ◌∙◌, subst, ◌+◌, refl}
 use Rattle.std.proofs.lemmas.Bool.{false≢true}
 use Rattle.uac_descriptor.specs.Contexts.{EachIn}
 use Rattle.uac_sentence.specs.Values.{HasValues}
-use Rattle.uac_sentence.proofs.WellFormedLemmas.{values_on, values_back, values_stop, none_left}
+use Rattle.uac_sentence.proofs.SentenceWellFormedLemmas.{values_on, values_back, values_stop, none_left}
 use Rattle.uac_sentence.proofs.well_formed.have_right_values.Goals as goal
 
 pub loop-block-init : goal.loop-block-init

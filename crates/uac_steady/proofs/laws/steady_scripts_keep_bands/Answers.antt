@@ -1,4 +1,4 @@
-use Rattle.uac_steady.proofs.LookingBackwards.{steady_scripts_keep_bands}
+use Rattle.uac_steady.proofs.ScriptsLemmas.{steady_scripts_keep_bands}
 use Rattle.uac_steady.proofs.laws.steady_scripts_keep_bands.Goals as goal
 
 pub returns : goal.returns

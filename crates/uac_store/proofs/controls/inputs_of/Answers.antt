@@ -1,5 +1,5 @@
 use Rattle.std.proofs.Common.{arith}
-use Rattle.uac_store.proofs.Starting.{inputs_within}
+use Rattle.uac_store.proofs.StoreControlsStartLemmas.{inputs_within}
 use Rattle.uac_store.proofs.controls.inputs_of.Goals as goal
 
 pub overflow_add-inputs : goal.overflow_add-inputs

@@ -1,6 +1,6 @@
 use Rattle.std.proofs.Common.{◌∙◌, w32, FitsSigned, rules, arith}
 use Rattle.std.proofs.lemmas.Int.{to_z-of_z}
-use Rattle.uac_store.proofs.Starting.{no_channels, channel_more, below_count, all_channels}
+use Rattle.uac_store.proofs.StoreControlsStartLemmas.{no_channels, channel_more, below_count, all_channels}
 use Rattle.uac_store.proofs.start.add_channels.Goals as goal
 
 pub loop-channel-init : goal.loop-channel-init

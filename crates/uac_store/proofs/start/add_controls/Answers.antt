@@ -1,5 +1,5 @@
 use Rattle.std.proofs.Common.{arith}
-use Rattle.uac_store.proofs.Starting.{selector_absent, all_selectors}
+use Rattle.uac_store.proofs.StoreControlsStartLemmas.{selector_absent, all_selectors}
 use Rattle.uac_store.proofs.start.add_controls.Goals as goal
 
 pub add_channels-requires-clause-absent : goal.add_channels-requires-clause-absent

@@ -1,4 +1,4 @@
-use Rattle.uac_store.proofs.Starting.{entity_absent, all_entities}
+use Rattle.uac_store.proofs.StoreControlsStartLemmas.{entity_absent, all_entities}
 use Rattle.uac_store.proofs.start.start_values.Goals as goal
 
 pub add_controls-requires-clause-absent : goal.add_controls-requires-clause-absent

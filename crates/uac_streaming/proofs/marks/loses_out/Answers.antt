@@ -5,7 +5,7 @@ use Rattle.uac_script.specs.Line.{phrase_mark}
 use Rattle.uac_script.specs.Phrase.{PhraseMark}
 use Rattle.uac_script.specs.declared.line.Mark.{Mark}
 use Rattle.uac_streaming.specs.StreamingWorld as spec
-use Rattle.uac_streaming.proofs.Lost.{any_of_map}
+use Rattle.uac_streaming.proofs.StreamingWorldMarkLemmas.{any_of_map}
 use Rattle.uac_streaming.proofs.marks.loses_out.Goals as goal
 
 pub returns : goal.returns

@@ -1,5 +1,5 @@
 use Rattle.uac_host.specs.HostCalls.{heard_in}
-use Rattle.uac_streaming.proofs.Turned.{fetched_told}
+use Rattle.uac_streaming.proofs.StreamingWorldLemmas.{fetched_told}
 use Rattle.uac_streaming.proofs.printing.write_fetched.Goals as goal
 
 pub returns-clause-printed : goal.returns-clause-printed

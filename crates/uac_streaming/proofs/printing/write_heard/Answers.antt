@@ -6,7 +6,7 @@ use Rattle.uac_host.specs.HostCalls.{heard_in}
 use Rattle.uac_transcript.specs.Transcript.{says_frame}
 use Rattle.uac_transcript.specs.Printing.{text_of}
 use Rattle.uac_transcript.proofs.PrintingLemmas.{front_of_lines, one_line_more}
-use Rattle.uac_streaming.proofs.PacketLines.{heard_few}
+use Rattle.uac_streaming.proofs.StreamingWorldLineLemmas.{heard_few}
 use Rattle.uac_edges.proofs.WritingLemmas.{Writes-handed_on}
 use Rattle.uac_streaming.proofs.printing.write_heard.Goals as goal
 

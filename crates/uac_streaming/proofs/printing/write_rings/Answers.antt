@@ -8,7 +8,7 @@ use Rattle.uac_transcript.specs.Printing.{text_of}
 use Rattle.uac_transcript.proofs.PrintingLemmas.{front_of_some, some_lines_more}
 use Rattle.uac_streaming.specs.declared.printing.FoundRing.{FoundRing}
 use Rattle.uac_streaming.specs.FoundRings.{says_found}
-use Rattle.uac_streaming.proofs.PacketLines.{found_here, found_rest, kept_only}
+use Rattle.uac_streaming.proofs.StreamingWorldLineLemmas.{found_here, found_rest, kept_only}
 use Rattle.uac_edges.proofs.WritingLemmas.{Writes-handed_on}
 use Rattle.uac_streaming.proofs.printing.write_rings.Goals as goal
 

@@ -1,4 +1,4 @@
-use Rattle.uac_streaming.proofs.PacketLines.{over_told}
+use Rattle.uac_streaming.proofs.StreamingWorldLineLemmas.{over_told}
 use Rattle.uac_streaming.proofs.printing.write_sent.Goals as goal
 
 pub returns-in-Over-clause-printed : goal.returns-in-Over-clause-printed

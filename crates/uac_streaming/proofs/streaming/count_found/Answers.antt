@@ -1,5 +1,5 @@
 use Rattle.std.proofs.Common.{◌≡◌, ◌∙◌, ap, sym, arith, ℕ}
-use Rattle.uac_streaming.proofs.Founds.{found_in, found_nothing, found_of}
+use Rattle.uac_streaming.proofs.StreamingWorldFoundLemmas.{found_in, found_nothing, found_of}
 use Rattle.uac_streaming.proofs.streaming.count_found.Goals as goal
 
 pub returns-then-found-eq0-2 : goal.returns-then-found-eq0-2

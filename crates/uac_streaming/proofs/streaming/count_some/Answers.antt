@@ -1,7 +1,7 @@
 use Rattle.std.proofs.Common.{◌≡◌, ◌∙◌, ap, sym, arith, ℕ, ◌%◌, ◌==◌, if◌then◌else◌}
 use Rattle.uac_transcript.specs.declared.report.StreamCounts.{StreamCounts}
 use Rattle.uac_streaming.specs.StreamingWorld.{nothing_met, one_over}
-use Rattle.uac_streaming.proofs.Founds.{found_all, found_in, found_more, found_of}
+use Rattle.uac_streaming.proofs.StreamingWorldFoundLemmas.{found_all, found_in, found_more, found_of}
 use Rattle.uac_streaming.proofs.streaming.count_some.Goals as goal
 
 pub loop-counts-preserved : goal.loop-counts-preserved

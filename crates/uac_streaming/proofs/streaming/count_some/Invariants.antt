@@ -1,5 +1,5 @@
 use Rattle.std.proofs.Common.{◌≡◌, ◌++◌, take, drop}
-use Rattle.uac_streaming.proofs.Founds.{found_in}
+use Rattle.uac_streaming.proofs.StreamingWorldFoundLemmas.{found_in}
 use Rattle.uac_streaming.proofs.streaming.count_some.Given as goal
 
 abbrev pub invariant-loop-counts : goal.invariant-loop-counts

@@ -3,7 +3,7 @@ use Rattle.std.specs.List.{range_with_len}
 use Rattle.std.proofs.Common.{Vec, Global}
 use Rattle.uac_topology.specs.Function.{interface_in}
 use Rattle.uac_streaming.specs.StreamingWorld.{numbers}
-use Rattle.uac_streaming.proofs.Numbered.{number_nowhere, number_there}
+use Rattle.uac_streaming.proofs.InOrderLemmas.{number_nowhere, number_there}
 use Rattle.uac_streaming.proofs.streaming.in_order.Goals as goal
 use Rattle.uac_streaming.proofs.streaming.in_order.Goals.{then-is_some+in_ok-push, else-is_some}
 

@@ -3,7 +3,7 @@ use Rattle.std.specs.Io.KnownBytes.{Appends}
 use Rattle.uac_transcript.specs.Transcript.{Said}
 use Rattle.uac_transcript.specs.Printing.{text_of}
 use Rattle.uac_streaming.proofs.TellingLemmas.{Appends-nothing}
-use Rattle.uac_streaming.proofs.Ticking.{found_none}
+use Rattle.uac_streaming.proofs.FoundRingsLemmas.{found_none}
 use Rattle.uac_streaming.proofs.turns.write_found.Goals as goal
 
 pub returns-then-found-eq0-2-clause-printed : goal.returns-then-found-eq0-2-clause-printed

@@ -3,7 +3,7 @@ use Rattle.uac_edges.specs.Writing.{AppendsFront}
 use Rattle.uac_transcript.specs.Transcript.{Said}
 use Rattle.uac_transcript.specs.Printing.{Prints, text_of}
 use Rattle.uac_transcript.proofs.PrintingLemmas.{Prints-after, front_of_more}
-use Rattle.uac_streaming.proofs.Ticking.{bits_over, bits_under, empty_lines, found_are, full_lines, is_empty_at, is_full_at}
+use Rattle.uac_streaming.proofs.FoundRingsLemmas.{bits_over, bits_under, empty_lines, found_are, full_lines, is_empty_at, is_full_at}
 use Rattle.uac_edges.proofs.WritingLemmas.{Writes-handed_on}
 use Rattle.uac_streaming.proofs.turns.write_some.Goals as goal
 

@@ -1,4 +1,4 @@
-use Rattle.uac_topology.proofs.Cycles as cycles
+use Rattle.uac_topology.proofs.TopologyCycleLemmas as cycles
 use Rattle.uac_topology.proofs.laws.cycles_are_refused.Goals as goal
 
 pub returns : goal.returns

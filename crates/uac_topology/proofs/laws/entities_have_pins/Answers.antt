@@ -1,4 +1,4 @@
-use Rattle.uac_topology.proofs.Pins.{have_pins}
+use Rattle.uac_topology.proofs.FunctionKeptPinLemmas.{have_pins}
 use Rattle.uac_topology.proofs.laws.entities_have_pins.Goals as goal
 
 pub returns : goal.returns

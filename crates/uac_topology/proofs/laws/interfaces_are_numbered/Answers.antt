@@ -1,4 +1,4 @@
-use Rattle.uac_topology.proofs.Numbers.{are_numbered}
+use Rattle.uac_topology.proofs.FunctionKeptNumberLemmas.{are_numbered}
 use Rattle.uac_topology.proofs.laws.interfaces_are_numbered.Goals as goal
 
 pub returns : goal.returns

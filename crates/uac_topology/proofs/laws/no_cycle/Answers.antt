@@ -1,4 +1,4 @@
-use Rattle.uac_topology.proofs.Cycles.{sound_has_no_cycle}
+use Rattle.uac_topology.proofs.TopologyCycleLemmas.{sound_has_no_cycle}
 use Rattle.uac_topology.proofs.laws.no_cycle.Goals as goal
 
 pub returns : goal.returns

@@ -1,4 +1,4 @@
-use Rattle.uac_topology.proofs.Ranges.{in_range}
+use Rattle.uac_topology.proofs.FunctionKeptRangeLemmas.{in_range}
 use Rattle.uac_topology.proofs.laws.settings_are_in_range.Goals as goal
 
 pub returns : goal.returns

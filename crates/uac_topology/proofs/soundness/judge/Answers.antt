@@ -8,7 +8,7 @@ use Rattle.uac_topology_rules.specs.Clusters.{with_own_clusters}
 use Rattle.uac_topology_rules.specs.Domains.{domains_of}
 use Rattle.uac_topology_rules.specs.RuleFaults.{broken_names, broken_walks}
 use Rattle.uac_topology.specs.Topology.{IsFunctionOf, IsSound, streams_in}
-use Rattle.uac_topology.proofs.Broken.{by_names, by_walks, by_shapes, by_ends}
+use Rattle.uac_topology.proofs.TopologyGroupLemmas.{by_names, by_walks, by_shapes, by_ends}
 use Rattle.uac_topology.proofs.soundness.judge.Goals as goal
 use Rattle.uac_topology.proofs.soundness.judge.Goals.{After-total_of}
 

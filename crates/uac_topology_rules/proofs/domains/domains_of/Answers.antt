@@ -1,6 +1,6 @@
 use Rattle.std.proofs.Common.{◌≡◌, ◌∷◌, ◌++◌, ◌+◌, [], ℕ, List, length, take, arith, sym, ap, ◌∙◌, subst}
 use Rattle.uac_topology_rules.specs.Domains.{IsDomains}
-use Rattle.uac_topology_rules.proofs.DomainSteps.{domains_none, domains_more}
+use Rattle.uac_topology_rules.proofs.DomainsEntityLemmas.{domains_none, domains_more}
 use Rattle.uac_topology_rules.proofs.domains.domains_of.Goals as goal
 
 pub loop-entity-init : goal.loop-entity-init

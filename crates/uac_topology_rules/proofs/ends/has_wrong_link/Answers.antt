@@ -3,7 +3,7 @@ use Rattle.std.specs.List.{list_any}
 use Rattle.std.specs.Option.{option_map_or}
 use Rattle.uac_entities.specs.EntityInterfaces.{links_of}
 use Rattle.uac_topology_rules.specs.Rules.{is_usb}
-use Rattle.uac_topology_rules.proofs.StreamSteps.{any_link_at}
+use Rattle.uac_topology_rules.proofs.EndRulesLemmas.{any_link_at}
 use Rattle.uac_topology_rules.proofs.ends.has_wrong_link.Goals as goal
 
 pub returns-then-is_wrong_link : goal.returns-then-is_wrong_link

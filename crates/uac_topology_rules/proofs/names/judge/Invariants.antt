@@ -2,5 +2,5 @@ use Rattle.std.proofs.Common.{◌≡◌, ℕ, ◌<◌, false}
 use Rattle.uac_topology_rules.specs.NameRules.{breaks}
 use Rattle.uac_topology_rules.proofs.names.judge.Given as goal
 
-abbrev pub invariant-loop-place : goal.invariant-loop-place
-invariant-loop-place l = (j : ℕ) → j < l.place → breaks l.rule l.table j ≡ false
+abbrev pub invariant-loop-index : goal.invariant-loop-index
+invariant-loop-index l = (j : ℕ) → j < l.index → breaks l.rule l.table j ≡ false

@@ -1,5 +1,5 @@
 use Rattle.std.proofs.Common.{arith}
-use Rattle.uac_topology_rules.proofs.Products.{product_fits}
+use Rattle.uac_topology_rules.proofs.ShapeRulesProductLemmas.{product_fits}
 use Rattle.uac_topology_rules.proofs.shapes.breaks_u9.Goals as goal
 
 pub overflow_mul-nodes : goal.overflow_mul-nodes

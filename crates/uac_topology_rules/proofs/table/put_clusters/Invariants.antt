@@ -1,5 +1,5 @@
 use Rattle.uac_topology_rules.specs.Table.{HasPut}
 use Rattle.uac_topology_rules.proofs.table.put_clusters.Given as goal
 
-abbrev pub invariant-loop-place : goal.invariant-loop-place
-invariant-loop-place l = HasPut l.initial.entities.items l.clusters l.place l.entities.items
+abbrev pub invariant-loop-index : goal.invariant-loop-index
+invariant-loop-index l = HasPut l.initial.entities.items l.clusters l.index l.entities.items

@@ -3,7 +3,7 @@ use Rattle.std.specs.Io.KnownBytes.{Appends}
 use Rattle.hex.specs.Hex.{encode_lower, encode_with}
 use Rattle.uac_edges.specs.Writing.{AppendsFront}
 use Rattle.uac_edges.proofs.WritingLemmas.{Appends-none, Appends-twice, AppendsFront-after, AppendsFront-longer, Writes-handed_on}
-use Rattle.uac_transcript.proofs.HexPieces.{encode_pieces, parts_more}
+use Rattle.uac_transcript.proofs.WriteHexLemmas.{encode_pieces, parts_more}
 use Rattle.uac_transcript.proofs.transfers.write_hex.Goals as goal
 
 pub loop-rest-init : goal.loop-rest-init

@@ -3,7 +3,7 @@ use Rattle.uac_entities.specs.declared.entity.Entity.{Entity}
 use Rattle.uac_topology.specs.Function.{FunctionFields}
 use Rattle.uac_graph.specs.Meaning.{entity}
 use Rattle.uac_device.specs.DeviceWorld.{is_input_jack}
-use Rattle.uac_device.proofs.Played.{entity_found}
+use Rattle.uac_device.proofs.DeviceWorldLemmas.{entity_found}
 use Rattle.uac_trials.proofs.device.takes.Goals as goal
 
 pub returns-in-Some-clause-jack : goal.returns-in-Some-clause-jack

@@ -1,5 +1,5 @@
 -- The stream is that of a setting of the function's interface.
-use Rattle.uac_host.proofs.StandsAfterCalls.{stream_given}
+use Rattle.uac_host.proofs.HostKeptCallLemmas.{stream_given}
 use Rattle.uac_trials.proofs.host.start.Goals as goal
 
 pub set_stream-requires : goal.set_stream-requires

@@ -5,7 +5,7 @@ use Rattle.uac_gain.specs.Gain.{scaled_sample, nearest_in_32_bits}
 use Rattle.uac_units.specs.SampleLanes.{SumFits, eight}
 use Rattle.uac_units.specs.Rendering.{input}
 use Rattle.uac_units.proofs.SampleLanesLemmas.{handed, handed-samples, room-lanes}
-use Rattle.uac_units.proofs.Mixing.{mixed_front, mixed-room, nodes-more}
+use Rattle.uac_units.proofs.RenderingMixLemmas.{mixed_front, mixed-room, nodes-more}
 use Rattle.uac_units.proofs.lanes.mix_eight.Goals as goal
 
 pub add_scaled-sums-requires-clause-room : goal.add_scaled-sums-requires-clause-room

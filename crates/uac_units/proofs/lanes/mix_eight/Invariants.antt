@@ -1,6 +1,6 @@
 use Rattle.std.proofs.Common.{◌≡◌, ◌+◌, map, to_z, w64}
 use Rattle.uac_units.specs.SampleLanes.{eight}
-use Rattle.uac_units.proofs.Mixing.{mixed_front}
+use Rattle.uac_units.proofs.RenderingMixLemmas.{mixed_front}
 use Rattle.uac_units.proofs.lanes.mix_eight.Given as goal
 
 abbrev pub invariant-loop-at : goal.invariant-loop-at

@@ -1,7 +1,7 @@
 use Rattle.std.proofs.Common.{◌≡◌, ◌∙◌, ap, arith, sym, subst, length, map, ◌*◌, ◌+◌, ◌++◌, FitsSigned, to_z, of_z, w32}
 use Rattle.std.specs.Simd.Lanes.{Each1}
 use Rattle.std.proofs.lemmas.List.FromFn.{length-map-range_with_len}
-use Rattle.uac_pcm.proofs.Packing.{where_ok}
+use Rattle.uac_pcm.proofs.FramesLemmas.{where_ok}
 use Rattle.uac_units.specs.SampleLanes.{eight}
 use Rattle.uac_units.specs.Rendering.{pins_sample}
 use Rattle.uac_units.proofs.SampleLanesLemmas.{eight_more, handed-narrow, handed-samples}

@@ -4,7 +4,7 @@ use Rattle.std.proofs.lemmas.Int.{to_z-of_z}
 use Rattle.uac_gain.specs.Gain.{scaled_sample}
 use Rattle.uac_units.specs.SampleLanes.{SumFits, together}
 use Rattle.uac_units.proofs.SampleLanesLemmas.{given, handed, handed-samples, room-lanes}
-use Rattle.uac_units.proofs.NodeLanes.{each-below, more-sums, silent-sums}
+use Rattle.uac_units.proofs.SampleLanesNodeLemmas.{each-below, more-sums, silent-sums}
 use Rattle.uac_units.proofs.nodes.add_scaled.Goals as goal
 use Rattle.uac_units.proofs.nodes.add_scaled.Goals.{then-bits-eq0, else-bits-eq0}
 

@@ -1,6 +1,6 @@
 use Rattle.std.proofs.Common.{◌∙◌, ap, subst, sym, FitsSigned, w32}
 use Rattle.std.specs.Simd.Lanes.{Each1}
-use Rattle.uac_units.proofs.NodeLanes.{choices-of, chosen, each-whole, scaled_sample-fits}
+use Rattle.uac_units.proofs.SampleLanesNodeLemmas.{choices-of, chosen, each-whole, scaled_sample-fits}
 use Rattle.uac_units.proofs.nodes.keep_or_silence.Goals as goal
 
 pub returns-clause-lanes : goal.returns-clause-lanes

@@ -2,7 +2,7 @@ use Rattle.std.proofs.Common.{◌∙◌, subst, sym, FitsSigned, w32}
 use Rattle.std.specs.Simd.Lanes.{Each1}
 use Rattle.uac_units.specs.SampleLanes.{IsGain}
 use Rattle.uac_units.proofs.SampleLanesLemmas.{handed}
-use Rattle.uac_units.proofs.NodeLanes.{are-gains, low-is, low-products, scaled_sample-fits}
+use Rattle.uac_units.proofs.SampleLanesNodeLemmas.{are-gains, low-is, low-products, scaled_sample-fits}
 use Rattle.uac_units.proofs.nodes.scale_down.Goals as goal
 
 pub multiply_eight-requires-clause-gains : goal.multiply_eight-requires-clause-gains

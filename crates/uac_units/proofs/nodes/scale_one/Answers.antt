@@ -5,7 +5,7 @@ use Rattle.std.proofs.lemmas.Simd.{Each1-weaker}
 use Rattle.uac_gain.specs.Gain.{scaled_sample}
 use Rattle.uac_units.specs.SampleLanes.{IsGain, together}
 use Rattle.uac_units.proofs.SampleLanesLemmas.{handed-samples}
-use Rattle.uac_units.proofs.NodeLanes.{are-gains, each-below, wide-is, wide-asked, scaled_sample-fits, wide-products}
+use Rattle.uac_units.proofs.SampleLanesNodeLemmas.{are-gains, each-below, wide-is, wide-asked, scaled_sample-fits, wide-products}
 use Rattle.uac_units.proofs.nodes.scale_one.Goals as goal
 use Rattle.uac_units.proofs.nodes.scale_one.Goals.{then-bits-eq-UNITY, else-bits-eq-UNITY, then-bits-lt-UNITY, else-bits-lt-UNITY}
 

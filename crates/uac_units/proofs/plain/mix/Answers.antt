@@ -1,7 +1,7 @@
 use Rattle.std.proofs.Common.{◌≡◌, ◌∙◌, ap, sym, arith, to_z, w64, ◌+ℤ◌, ◌+◌, ◌*◌, get_or, length, ℕ, List}
 use Rattle.uac_gain.specs.Gain.{scaled_sample}
 use Rattle.uac_units.specs.Rendering.{input}
-use Rattle.uac_units.proofs.Mixing.{few_inputs, mixed_front, mixed_front_more, node, sum_fits, sum-bound}
+use Rattle.uac_units.proofs.RenderingMixLemmas.{few_inputs, mixed_front, mixed_front_more, node, sum_fits, sum-bound}
 use Rattle.uac_units.proofs.plain.mix.Goals as goal
 
 pub loop-at-preserved : goal.loop-at-preserved

@@ -1,5 +1,5 @@
 use Rattle.std.proofs.Common.{◌≡◌, ◌≤◌, ◌*◌, unsigned_abs}
-use Rattle.uac_units.proofs.Mixing.{mixed_front}
+use Rattle.uac_units.proofs.RenderingMixLemmas.{mixed_front}
 use Rattle.uac_units.proofs.plain.mix.Given as goal
 
 abbrev pub invariant-loop-at : goal.invariant-loop-at

@@ -3,7 +3,7 @@ use Rattle.std.proofs.lemmas.Int.{to_z-of_z}
 use Rattle.uac_gain.specs.Gain.{scaled_sample}
 use Rattle.uac_units.specs.declared.jobs.UnitKind.TheVariants.{Feature}
 use Rattle.uac_units.specs.Rendering.{input, pins_sample, job_samples}
-use Rattle.uac_units.proofs.Writing.{all_written, one_more}
+use Rattle.uac_units.proofs.RenderingWriteLemmas.{all_written, one_more}
 use Rattle.uac_units.proofs.plain.render_channels.Goals as goal
 
 pub loop-channel-preserved : goal.loop-channel-preserved

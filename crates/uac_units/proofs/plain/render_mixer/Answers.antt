@@ -2,7 +2,7 @@ use Rattle.std.proofs.Common.{◌∙◌, arith, w32}
 use Rattle.std.proofs.lemmas.Int.{to_z-of_z}
 use Rattle.uac_units.specs.declared.jobs.UnitKind.TheVariants.{Mixer}
 use Rattle.uac_units.specs.Rendering.{pins_sample, job_samples}
-use Rattle.uac_units.proofs.Writing.{all_written, one_more}
+use Rattle.uac_units.proofs.RenderingWriteLemmas.{all_written, one_more}
 use Rattle.uac_units.proofs.plain.render_mixer.Goals as goal
 
 pub loop-channel-preserved : goal.loop-channel-preserved

@@ -2,7 +2,7 @@ use Rattle.std.proofs.Common.{◌∙◌, arith, sym, w32}
 use Rattle.std.proofs.lemmas.Int.{to_z-of_z}
 use Rattle.uac_units.specs.declared.jobs.UnitKind.TheVariants.{Feature}
 use Rattle.uac_units.specs.Rendering.{pins_sample, job_samples}
-use Rattle.uac_units.proofs.Writing.{all_written, none_yet, one_more}
+use Rattle.uac_units.proofs.RenderingWriteLemmas.{all_written, none_yet, one_more}
 use Rattle.uac_units.proofs.plain.render_only.Goals as goal
 
 pub returns-then-stays : goal.returns-then-stays

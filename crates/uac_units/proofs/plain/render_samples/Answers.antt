@@ -1,5 +1,5 @@
 use Rattle.std.proofs.Common.{◌∙◌}
-use Rattle.uac_units.proofs.Writing.{effect_alone}
+use Rattle.uac_units.proofs.RenderingWriteLemmas.{effect_alone}
 use Rattle.uac_units.proofs.plain.render_samples.Goals as goal
 
 pub returns-in-Effect : goal.returns-in-Effect

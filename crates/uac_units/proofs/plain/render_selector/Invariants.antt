@@ -1,6 +1,6 @@
 use Rattle.uac_units.specs.declared.jobs.UnitKind.TheVariants.{Selector}
 use Rattle.uac_units.specs.Rendering.{pins_sample}
-use Rattle.uac_units.proofs.Writing.{AreWritten}
+use Rattle.uac_units.proofs.RenderingWriteLemmas.{AreWritten}
 use Rattle.uac_units.proofs.plain.render_selector.Given as goal
 
 abbrev pub invariant-loop-channel : goal.invariant-loop-channel

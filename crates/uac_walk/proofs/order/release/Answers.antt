@@ -1,7 +1,7 @@
 use Rattle.std.proofs.Common.{◌≡◌, ◌-◌, ℕ, ◌++◌, ◌∷◌, [], List, Vec, Global, refl, ◌+◌, get_or, take, set, arith, sym, ap, ◌∙◌, subst}
 use Rattle.std.proofs.lemmas.List.{get_or_read}
 use Rattle.uac_walk.specs.NodeReleasing.{Releases}
-use Rattle.uac_walk.proofs.ReleaseStep.{waits_below, still_waits, settles_next, settles_later}
+use Rattle.uac_walk.proofs.NodeReleasingStepLemmas.{waits_below, still_waits, settles_next, settles_later}
 use Rattle.uac_walk.proofs.order.release.Goals as goal
 use Rattle.uac_walk.proofs.order.release.Goals.{then-left-eq0+in_ok-push, else-left-eq0}
 

@@ -1,7 +1,7 @@
 -- The setting of each interface after one is set.
 use Rattle.std.proofs.Common.{arith}
 use Rattle.std.proofs.lemmas.Grind.{common_steps}
-use Rattle.uac_alt.proofs.Changed.{setting_after}
+use Rattle.uac_alt.proofs.AltSettingsLemmas.{setting_after}
 use Rattle.uac_alt.proofs.settings.Settings.set.Goals as goal
 
 pub returns-clause-setting : goal.returns-clause-setting

@@ -1,4 +1,4 @@
-use Rattle.uac_bus.proofs.Stepping.{answers_same}
+use Rattle.uac_bus.proofs.BusWorldLemmas.{answers_same}
 use Rattle.uac_bus.proofs.bus.Bus.line.Goals as goal
 
 pub returns-clause-answers : goal.returns-clause-answers

@@ -3,7 +3,7 @@ use Rattle.uac_graph.specs.Meaning.{entity}
 use Rattle.uac_device.specs.DeviceWorld.{is_input_jack}
 use Rattle.uac_device.specs.DeviceKept.{DeviceFields, DeviceStands}
 use Rattle.uac_device.specs.contracts.device.Device.{the_view}
-use Rattle.uac_device.proofs.Played.{jack_fits, jack_stands}
+use Rattle.uac_device.proofs.DeviceWorldLemmas.{jack_fits, jack_stands}
 use Rattle.uac_device.proofs.device.Device.jack.Goals as goal
 
 pub set-requires : goal.set-requires

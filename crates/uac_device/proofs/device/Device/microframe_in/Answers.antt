@@ -2,7 +2,7 @@ use Rattle.std.proofs.Common.{subst, sym}
 use Rattle.uac_device.specs.DeviceWorld.{frames_in, packet_in}
 use Rattle.uac_device.specs.DeviceKept.{DeviceFields, DeviceStands}
 use Rattle.uac_device.specs.contracts.device.Device.{the_view}
-use Rattle.uac_device.proofs.Streaming.{device_with_streams, sent_stands}
+use Rattle.uac_device.proofs.DeviceKeptStreamLemmas.{device_with_streams, sent_stands}
 use Rattle.uac_device.proofs.device.Device.microframe_in.Goals as goal
 
 pub invariant_of-self : goal.invariant_of-self

@@ -3,7 +3,7 @@ use Rattle.std.specs.Option.{option_map}
 use Rattle.uac_device.specs.DeviceWorld.{arrival_in}
 use Rattle.uac_device.specs.DeviceKept.{DeviceFields, DeviceStands}
 use Rattle.uac_device.specs.contracts.device.Device.{the_view}
-use Rattle.uac_device.proofs.Streaming.{device_with_streams, received_stands}
+use Rattle.uac_device.proofs.DeviceKeptStreamLemmas.{device_with_streams, received_stands}
 use Rattle.uac_device.proofs.device.Device.microframe_out.Goals as goal
 
 pub invariant_of-self : goal.invariant_of-self

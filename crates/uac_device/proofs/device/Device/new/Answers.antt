@@ -5,8 +5,8 @@ use Rattle.uac_device.specs.declared.clocks.DomainClock.{DomainClock}
 use Rattle.uac_device.specs.DeviceKept.{IsDeviationInRange}
 use Rattle.uac_device.proofs.DeviceKeptLemmas.{resting_domains, resting_phases, resting_range}
 use Rattle.uac_device_streams.specs.DeviceStreams.{ports}
-use Rattle.uac_device.proofs.Played.{fresh_stands}
-use Rattle.uac_device.proofs.Streaming.{ports_idle}
+use Rattle.uac_device.proofs.DeviceWorldLemmas.{fresh_stands}
+use Rattle.uac_device.proofs.DeviceKeptStreamLemmas.{ports_idle}
 use Rattle.uac_device.proofs.device.Device.new.Goals as goal
 
 pub invariant_of-result : goal.invariant_of-result

@@ -1,7 +1,7 @@
 use Rattle.std.proofs.Common.{◌∙◌, ap, sym}
 use Rattle.uac_graph.specs.Wiring.{frame_on}
 use Rattle.uac_device.specs.DeviceKept.{DeviceFields}
-use Rattle.uac_device.proofs.Played.{played_here, played_nowhere}
+use Rattle.uac_device.proofs.DeviceWorldLemmas.{played_here, played_nowhere}
 use Rattle.uac_device.proofs.device.Device.played.Goals as goal
 
 pub returns-then-plays : goal.returns-then-plays

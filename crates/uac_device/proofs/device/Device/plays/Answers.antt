@@ -3,15 +3,15 @@ use Rattle.uac_entities.specs.declared.entity.Entity.{Entity}
 use Rattle.uac_graph.specs.Meaning.{entity}
 use Rattle.uac_device.specs.DeviceWorld.{is_output_jack}
 use Rattle.uac_device.specs.DeviceKept.{DeviceFields}
-use Rattle.uac_device.proofs.Played.{entity_found, jack_nowhere}
+use Rattle.uac_device.proofs.DeviceWorldLemmas.{entity_found, jack_nowhere}
 use Rattle.uac_device.proofs.device.Device.plays.Goals as goal
 
 pub returns-in-Some : goal.returns-in-Some
 returns-in-Some c =
     c.is_output_jack.ensures
     ∙ ap is_output_jack
-    (entity_found c.self.inside.function.entities c.args.id c.in-Some.place c.index-entities-place.result (sym c.find.ensures ∙ c.in-Some.is)
-    (subst (λ (entities : List Entity). c.index-entities-place.result ≡ get_or entities c.in-Some.place c.index-entities-place.result) c.entities.ensures c.index-entities-place.is))
+    (entity_found c.self.inside.function.entities c.args.id c.in-Some.index c.index-entities-index.result (sym c.find.ensures ∙ c.in-Some.is)
+    (subst (λ (entities : List Entity). c.index-entities-index.result ≡ get_or entities c.in-Some.index c.index-entities-index.result) c.entities.ensures c.index-entities-index.is))
     ∙ ap (λ (device : DeviceFields). is_output_jack (entity device.function.entities c.args.id)) c.self.view_is
 
 pub returns-in-None : goal.returns-in-None

@@ -5,7 +5,7 @@ use Rattle.uac_device_streams.specs.InterfaceStreams.{runs_either}
 use Rattle.uac_device_streams.specs.declared.device_stream.Port.{Port}
 use Rattle.uac_device.specs.DeviceWorld.{runs_one}
 use Rattle.uac_device.specs.DeviceKept.{DeviceFields, DeviceStands}
-use Rattle.uac_device.proofs.Streaming.{one_port_runs}
+use Rattle.uac_device.proofs.DeviceKeptStreamLemmas.{one_port_runs}
 use Rattle.uac_device.proofs.device.Device.runs.Goals as goal
 
 pub returns-clause-value : goal.returns-clause-value

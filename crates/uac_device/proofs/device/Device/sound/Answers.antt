@@ -7,7 +7,7 @@ use Rattle.uac_graph.specs.Wiring.{frame_on}
 use Rattle.uac_device.specs.DeviceWorld.{is_input_jack, set_jack}
 use Rattle.uac_device.specs.DeviceKept.{DeviceFields, DeviceStands}
 use Rattle.uac_device.specs.contracts.device.Device.{the_view}
-use Rattle.uac_device.proofs.Played.{jack_fits, jack_stands}
+use Rattle.uac_device.proofs.DeviceWorldLemmas.{jack_fits, jack_stands}
 use Rattle.uac_device.proofs.device.Device.sound.Goals as goal
 
 -- a wire that is sounded anew has that frame on its channels

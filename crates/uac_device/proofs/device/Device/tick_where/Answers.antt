@@ -5,19 +5,19 @@ use Rattle.uac_graph.specs.GraphControls.{controls_in}
 use Rattle.uac_graph.specs.Jobs.{AreJobs}
 use Rattle.uac_graph.specs.Needs.{depends_on, needed_units}
 use Rattle.uac_graph.specs.Wiring.{AreRendered, AreWiresOf, samples_on}
-use Rattle.uac_graph.proofs.Ends.{output_terminals}
-use Rattle.uac_graph.proofs.FromRules.{sound_graph}
+use Rattle.uac_graph.proofs.NeedsEndLemmas.{output_terminals}
+use Rattle.uac_graph.proofs.FitnessLemmas.{sound_graph}
 use Rattle.uac_units.specs.MeterReadings.{readings}
 use Rattle.uac_device.specs.DeviceWorld.{after_frames, after_tick}
 use Rattle.uac_device.specs.DeviceKept.{DeviceFields, DeviceStands}
-use Rattle.uac_device_streams.specs.DeviceStreams.{WiredOut}
+use Rattle.uac_device_streams.specs.DeviceStreams.{IsWiredOut}
 use Rattle.uac_device.specs.DeviceTurns.{frames_heard}
 use Rattle.uac_device.specs.contracts.device.Device.{the_view}
 use Rattle.uac_device.proofs.LinkedLemmas.{linked}
-use Rattle.uac_device.proofs.Played.{Rendered, heard_in, renders_here}
-use Rattle.uac_device.proofs.Streaming.{ports_wired_in, ports_wired_out}
+use Rattle.uac_device.proofs.DeviceWorldLemmas.{Rendered, heard_in, renders_here}
+use Rattle.uac_device.proofs.DeviceKeptStreamLemmas.{ports_wired_in, ports_wired_out}
 use Rattle.uac_device.proofs.StillnessLemmas.{found_or_still, ticked_or_still}
-use Rattle.uac_device.proofs.TickInputs.{device_with_wires, streams_few, wires_kept}
+use Rattle.uac_device.proofs.DeviceKeptTickLemmas.{device_with_wires, streams_few, wires_kept}
 use Rattle.uac_device.proofs.device.Device.tick_where.Goals as goal
 
 pub begin_unless-met-requires : goal.begin_unless-met-requires
@@ -44,7 +44,7 @@ tick_by-requires-clause-room g c =
 
 pub put_unless-requires : goal.put_unless-requires
 put_unless-requires g c =
-    subst (All (WiredOut c.tick_by.new.wires)) (sym c.begin_unless-met.ensures.ports)
+    subst (All (IsWiredOut c.tick_by.new.wires)) (sym c.begin_unless-met.ensures.ports)
     (ports_wired_out (the_view c.self.inside) c.tick_by.new.wires (linked c.self.inside.function c.functions_are_sound.ensures)
     (subst (λ (graph : List Entity). AreWiresOf graph c.tick_by.new.wires) c.self.invariant.1 c.tick_by.ensures.fitting) c.self.invariant.0)
 

@@ -1,4 +1,4 @@
-use Rattle.uac_device_streams.proofs.DeviceStreamLemmas.{out_goes_on, out_sound}
+use Rattle.uac_device_streams.proofs.DeviceStreamsFlowLemmas.{out_goes_on, out_sound}
 use Rattle.uac_device_streams.proofs.device_stream.DeviceStream.count.Goals as goal
 
 pub returns-else-self-domain-clause-sound : goal.returns-else-self-domain-clause-sound

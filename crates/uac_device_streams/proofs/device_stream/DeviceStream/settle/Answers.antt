@@ -2,7 +2,7 @@ use Rattle.std.proofs.Common.{ap}
 use Rattle.std.specs.Option.{option_map}
 use Rattle.uac_flow.specs.FlowStreams.{settled_in, settled_out}
 use Rattle.uac_device_streams.specs.declared.device_stream.Flow.TheVariants as flow
-use Rattle.uac_device_streams.proofs.DeviceStreamLemmas.{in_goes_on, in_sound, known}
+use Rattle.uac_device_streams.proofs.DeviceStreamsFlowLemmas.{in_goes_on, in_sound, known}
 use Rattle.uac_device_streams.proofs.device_stream.DeviceStream.settle.Goals as goal
 
 pub returns-in-In-clause-stands : goal.returns-in-In-clause-stands

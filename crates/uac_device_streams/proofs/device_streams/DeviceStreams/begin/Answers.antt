@@ -4,9 +4,9 @@ use Rattle.uac_graph.specs.Wiring.{frame_on}
 use Rattle.uac_flow.specs.FlowStreams.{after_taking}
 use Rattle.uac_device_streams.specs.declared.device_stream.DeviceStream.{DeviceStream}
 use Rattle.uac_device_streams.specs.InterfaceStreams.{changed_where}
-use Rattle.uac_device_streams.specs.DeviceStreams.{AreDeviceStreams, DeviceStreamsStand, given_by, met_by, ports}
+use Rattle.uac_device_streams.specs.DeviceStreams.{AreDeviceStreams, DeviceStreamsStand, frame_given_by, met_by, ports}
 use Rattle.uac_device_streams.proofs.DeviceStreamsLemmas.{still_apart}
-use Rattle.uac_device_streams.proofs.Turning.{put_back}
+use Rattle.uac_device_streams.proofs.ListChangeLemmas.{put_back}
 use Rattle.uac_device_streams.proofs.device_streams.DeviceStreams.begin.Goals as goal
 
 pub invariant_of-self : goal.invariant_of-self
@@ -28,7 +28,7 @@ pub returns-clause-frames : goal.returns-clause-frames
 returns-clause-frames c outs ins keeps id =
     let same = sym (c.deref_mut.ensures.value ∙ c.self.view_is) in
     c.begin.ensures.frames outs ins (subst (λ (ls : List DeviceStream). DeviceStreamsStand ls outs ins) same keeps) id
-    ∙ ap (λ (ls : List DeviceStream). given_by c.args.domain id outs (ports ls) (frame_on c.args.wires.now id)) (sym same)
+    ∙ ap (λ (ls : List DeviceStream). frame_given_by c.args.domain id outs (ports ls) (frame_on c.args.wires.now id)) (sym same)
 
 pub returns-clause-met : goal.returns-clause-met
 returns-clause-met c outs ins keeps =

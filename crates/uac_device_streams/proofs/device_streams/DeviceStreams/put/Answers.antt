@@ -6,7 +6,7 @@ use Rattle.uac_device_streams.specs.declared.device_stream.DeviceStream.{DeviceS
 use Rattle.uac_device_streams.specs.InterfaceStreams.{changed_where}
 use Rattle.uac_device_streams.specs.DeviceStreams.{AreDeviceStreams, DeviceStreamsStand, ports}
 use Rattle.uac_device_streams.proofs.DeviceStreamsLemmas.{still_apart}
-use Rattle.uac_device_streams.proofs.Turning.{put_back}
+use Rattle.uac_device_streams.proofs.ListChangeLemmas.{put_back}
 use Rattle.uac_device_streams.proofs.device_streams.DeviceStreams.put.Goals as goal
 
 pub invariant_of-self : goal.invariant_of-self

@@ -1,7 +1,7 @@
 -- The count rises in each microframe; what else happens is as the microframe is due.
 use Rattle.std.proofs.Common.{◌≡◌, ◌∙◌, true, false, sym}
 use Rattle.uac_flow.specs.FlowStreams.{is_due}
-use Rattle.uac_flow.proofs.Settling.{keeps_due, keeps_later, keeps_not_due, later}
+use Rattle.uac_flow.proofs.FlowStreamsLemmas.{keeps_due, keeps_later, keeps_not_due, later}
 use Rattle.uac_flow.proofs.outward.OutFlow.settle.Goals as goal
 
 pub returns-then-is_due-clause-stands : goal.returns-then-is_due-clause-stands

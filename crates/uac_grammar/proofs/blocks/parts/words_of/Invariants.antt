@@ -1,5 +1,5 @@
 use Rattle.std.proofs.Common.{◌≡◌}
-use Rattle.uac_descriptor.specs.BlockReading.{words_in}
+use Rattle.uac_descriptor.specs.BlockParsing.{words_in}
 use Rattle.uac_grammar.proofs.blocks.parts.words_of.Given as goal
 
 abbrev pub invariant-loop-i : goal.invariant-loop-i

@@ -1,6 +1,6 @@
 use Rattle.std.proofs.Common.{refl, subst}
 use Rattle.uac_grammar.specs.ReaderKept.{IsUnstopped}
-use Rattle.uac_grammar.proofs.Readings.{unstopped}
+use Rattle.uac_grammar.proofs.ReaderKeptLemmas.{unstopped}
 use Rattle.uac_grammar.proofs.reader.Reader.feed.Goals as goal
 
 pub loop-rest-init : goal.loop-rest-init

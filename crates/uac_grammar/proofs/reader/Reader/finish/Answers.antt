@@ -3,7 +3,7 @@ use Rattle.std.proofs.lemmas.List.{append-nil}
 use Rattle.uac_sentence.specs.Sentence.{spellings}
 use Rattle.uac_grammar.specs.ReaderKept.{ReaderFields}
 use Rattle.uac_grammar.specs.Stop.{stop_at, first_stop}
-use Rattle.uac_grammar.proofs.Readings.{shown_stop_first, going_end, going_sentence}
+use Rattle.uac_grammar.proofs.ReaderKeptLemmas.{shown_stop_first, going_end, going_sentence}
 use Rattle.uac_grammar.proofs.reader.Reader.finish.Goals as goal
 
 pub returns-in-Some-clause-stop : goal.returns-in-Some-clause-stop

@@ -1,6 +1,6 @@
 use Rattle.std.proofs.Common.{[], None, refl}
 use Rattle.uac_sentence.specs.Grammar.{start}
-use Rattle.uac_grammar.proofs.Readings.{reading_going, going_start}
+use Rattle.uac_grammar.proofs.ReaderKeptLemmas.{reading_going, going_start}
 use Rattle.uac_grammar.proofs.reader.Reader.new.Goals as goal
 
 pub invariant_of-result : goal.invariant_of-result

@@ -3,7 +3,7 @@ use Rattle.std.proofs.lemmas.List.{length-take-le}
 use Rattle.uac_sentence.specs.Sentence.{spellings}
 use Rattle.uac_grammar.specs.ReaderKept.{ReaderFields}
 use Rattle.uac_grammar.specs.Stop.{shown_stop}
-use Rattle.uac_grammar.proofs.Readings.{more_bytes, going_more, going_stays, taken_kept, taken_more, reading_going, reading_refused, refused_shows, unstopped}
+use Rattle.uac_grammar.proofs.ReaderKeptLemmas.{more_bytes, going_more, going_stays, taken_kept, taken_more, reading_going, reading_refused, refused_shows, unstopped}
 use Rattle.uac_grammar.proofs.reader.Reader.take.Goals as goal
 
 pub overflow_add-self : goal.overflow_add-self

@@ -1,7 +1,7 @@
 use Rattle.std.proofs.Common.{◌∙◌, sym, ap}
 use Rattle.std.specs.Option.{option_map}
 use Rattle.uac_graph.specs.Wiring.{Frames, frame_on}
-use Rattle.uac_graph.proofs.RowsById.{frame_seen, stands_at}
+use Rattle.uac_graph.proofs.FrameRowsLemmas.{frame_seen, stands_at}
 use Rattle.uac_graph.proofs.frame_table.FrameTable.get.Goals as goal
 
 pub returns-in-Some : goal.returns-in-Some

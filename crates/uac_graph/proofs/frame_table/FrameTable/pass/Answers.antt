@@ -2,10 +2,10 @@ use Rattle.std.proofs.Common.{◌≡◌, ◌∙◌, ap, sym, subst, arith, eqb, 
 use Rattle.std.specs.Option.{option_map}
 use Rattle.std.proofs.lemmas.List.{with_items_is}
 use Rattle.arrayvec.specs.declared.array_vec.ArrayVec.{ArrayVec}
-use Rattle.uac_graph.proofs.Copying.{lengths_of}
+use Rattle.uac_graph.proofs.FrameRowsSampleLemmas.{lengths_of}
 use Rattle.uac_graph.specs.FrameRows.{slot_after_passing}
 use Rattle.uac_graph.specs.Wiring.{Frames, frame_on, samples_on}
-use Rattle.uac_graph.proofs.RowsById.{frame_seen, passed_seen}
+use Rattle.uac_graph.proofs.FrameRowsLemmas.{frame_seen, passed_seen}
 use Rattle.uac_graph.proofs.frame_table.FrameTable.pass.Goals as goal
 
 pub returns : goal.returns

@@ -1,7 +1,7 @@
 use Rattle.std.proofs.Common.{◌∙◌, ap, eqb, Some, if◌then◌else◌, arith, length, ℤ, List, refl}
 use Rattle.std.specs.Option.{option_map}
 use Rattle.uac_graph.specs.Wiring.{Frames, frame_on}
-use Rattle.uac_graph.proofs.RowsById.{frame_written, none_there, stands_at}
+use Rattle.uac_graph.proofs.FrameRowsLemmas.{frame_written, none_there, stands_at}
 use Rattle.uac_graph.proofs.frame_table.FrameTable.render.Goals as goal
 
 pub unreachable-requires : goal.unreachable-requires

@@ -2,8 +2,8 @@ use Rattle.std.proofs.Common.{◌∙◌, ap, eqb, Some, if◌then◌else◌, ari
 use Rattle.std.specs.Option.{option_map}
 use Rattle.uac_graph.specs.Wiring.{Frames, frame_on}
 use Rattle.uac_graph.specs.contracts.frame_table.FrameTable.{the_view}
-use Rattle.uac_graph.proofs.Lookups.{set_fits}
-use Rattle.uac_graph.proofs.RowsById.{frame_written, none_there, stands_at}
+use Rattle.uac_graph.proofs.WiringLemmas.{set_fits}
+use Rattle.uac_graph.proofs.FrameRowsLemmas.{frame_written, none_there, stands_at}
 use Rattle.uac_graph.proofs.frame_table.FrameTable.set.Goals as goal
 use Rattle.uac_graph.proofs.frame_table.FrameTable.set.Goals.{in-Some, in_default}
 

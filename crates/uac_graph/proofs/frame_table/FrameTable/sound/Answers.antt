@@ -5,8 +5,8 @@ use Rattle.uac_pcm.specs.Tones.{tone_sample, tone_frame}
 use Rattle.arrayvec.specs.ArrayVec.{ArrayVec}
 use Rattle.uac_graph.specs.Wiring.{Frames, frame_on}
 use Rattle.uac_graph.specs.contracts.frame_table.FrameTable.{the_view}
-use Rattle.uac_graph.proofs.Lookups.{remade_fits}
-use Rattle.uac_graph.proofs.RowsById.{frame_seen, frame_written, place_written, stands_at}
+use Rattle.uac_graph.proofs.WiringLemmas.{remade_fits}
+use Rattle.uac_graph.proofs.FrameRowsLemmas.{frame_seen, frame_written, slot_written, stands_at}
 use Rattle.uac_graph.proofs.frame_table.FrameTable.sound.Goals as goal
 use Rattle.uac_graph.proofs.frame_table.FrameTable.sound.Goals.{in-Some, in_default}
 
@@ -28,8 +28,8 @@ returns-clause-wires c k =
           ∙ ap (λ (frames : Frames). if eqb id k then option_map sounding (frame_on c.args.self.now id) else frame_on frames k) c.self.view_is
       | in_default w ↦
           ap (λ i. frame_on (the_view i) k) w.self-inside-is
-          ∙ place_written (λ f. f.items) row _ id c.index_mut.result.now (omega (arith, c.self.invariant, c.ranges.id.fits)) refl k
-          ∙ ap (λ (place : Option (ArrayVec ℤ)). if eqb id k then option_map (λ f. f.items) place else frame_on (the_view c.self.inside) k) w.in_default.is
+          ∙ slot_written (λ f. f.items) row _ id c.index_mut.result.now (omega (arith, c.self.invariant, c.ranges.id.fits)) refl k
+          ∙ ap (λ (slot : Option (ArrayVec ℤ)). if eqb id k then option_map (λ f. f.items) slot else frame_on (the_view c.self.inside) k) w.in_default.is
           ∙ ap (λ (wire : Option (List ℤ)). if eqb id k then option_map sounding wire else frame_on (the_view c.self.inside) k)
           (sym (own ∙ ap (option_map (λ f. f.items)) w.in_default.is))
           ∙ ap (λ (frames : Frames). if eqb id k then option_map sounding (frame_on c.args.self.now id) else frame_on frames k) c.self.view_is

@@ -1,6 +1,6 @@
 use Rattle.std.proofs.Common.{◌∙◌, sym, subst}
 use Rattle.uac_graph.specs.Fitness.{IsSignalGraph}
-use Rattle.uac_graph.proofs.FromRules.{sound_graph}
+use Rattle.uac_graph.proofs.FitnessLemmas.{sound_graph}
 use Rattle.uac_graph.proofs.graph.Graph.build.Goals as goal
 
 pub orders_of-requires : goal.orders_of-requires

@@ -3,10 +3,10 @@ use Rattle.uac_topology_rules.specs.Table.{at}
 use Rattle.uac_topology_rules.specs.Links.{is_clock}
 use Rattle.uac_graph.specs.Orders.{frame_after}
 use Rattle.uac_graph.specs.Wiring.{samples_on}
-use Rattle.uac_graph.proofs.Following.{next_counted, next_of, skips_last}
-use Rattle.uac_graph.proofs.InOrder.{all_rendered, none_rendered, step_rendered}
+use Rattle.uac_graph.proofs.TasksOrderLemmas.{next_counted, next_of, skips_last}
+use Rattle.uac_graph.proofs.WiringOrderLemmas.{all_rendered, none_rendered, step_rendered}
 use Rattle.uac_graph.proofs.NeedsLemmas.{all_units, units_end}
-use Rattle.uac_graph.proofs.Ticking.{given_held}
+use Rattle.uac_graph.proofs.WiringTerminalLemmas.{given_held}
 use Rattle.uac_graph.proofs.graph.Graph.follow.Goals as goal
 
 pub loop-task-init : goal.loop-task-init
@@ -15,10 +15,10 @@ loop-task-init g c = record {
     upto = 0;
     inside = omega arith;
     left = c.as_slice-task-items.ensures.value ∙ c.requires.order.tasks_of;
-    rendered = λ controls are. none_rendered c.args.self.now controls (samples_on c.args.wires.now) c.args.order.now.places.items c.args.wires.now;
+    rendered = λ controls are. none_rendered c.args.self.now controls (samples_on c.args.wires.now) c.args.order.now.indices.items c.args.wires.now;
     counted =
         ap (λ (n : ℕ). c.args.steps.now + n)
-        (all_units c.args.self.now c.args.order.now.domain c.args.order.now.places.items c.requires.sound c.requires.order.order_of);
+        (all_units c.args.self.now c.args.order.now.domain c.args.order.now.indices.items c.requires.sound c.requires.order.order_of);
   };
   fitting = c.requires.wires;
 }
@@ -63,7 +63,7 @@ loop-task-preserved g c =
         inside = omega (arith, below);
         left = next.left;
         rendered = λ controls jobs_are.
-            step_rendered c.args.self.now controls (samples_on c.args.wires.now) c.args.order.now.places.items next.next
+            step_rendered c.args.self.now controls (samples_on c.args.wires.now) c.args.order.now.indices.items next.next
             c.args.wires.now c.loop-task.wires c.carry_out.new.wires c.requires.sound c.requires.order.order_of.order next.below
             (given_held c.args.self.now c.args.wires.now c.requires.wires)
             (next.skips.rendered controls (samples_on c.args.wires.now) c.args.wires.now c.loop-task.wires
@@ -85,7 +85,7 @@ pub returns-clause-rendered : goal.returns-clause-rendered
 returns-clause-rendered g c controls jobs_are =
     let done = c.loop-task.invariant.done in
     let last = skips_last c.requires.sound c.requires.order.order_of.order done c.loop-task-test.false in
-    all_rendered c.args.self.now controls (samples_on c.args.wires.now) c.args.order.now.domain (length c.args.order.now.places.items) c.args.order.now.places.items
+    all_rendered c.args.self.now controls (samples_on c.args.wires.now) c.args.order.now.domain (length c.args.order.now.indices.items) c.args.order.now.indices.items
     c.args.wires.now c.loop-task.wires c.requires.order.order_of (omega arith)
     (last.rendered controls (samples_on c.args.wires.now) c.args.wires.now c.loop-task.wires
     (given_held c.args.self.now c.args.wires.now c.requires.wires) (done.rendered controls jobs_are))
@@ -103,5 +103,5 @@ returns-clause-once g c =
       arith,
       counted,
       units,
-      units_end c.args.self.now c.args.order.now.places.items (length c.args.order.now.places.items) (omega arith),
+      units_end c.args.self.now c.args.order.now.indices.items (length c.args.order.now.indices.items) (omega arith),
     )

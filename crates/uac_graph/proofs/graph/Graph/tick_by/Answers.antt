@@ -2,7 +2,7 @@ use Rattle.std.proofs.Common.{◌∙◌, ◌+◌, [], ap, arith, subst, length, 
 use Rattle.uac_graph.specs.Fitness.{IsSignalGraph}
 use Rattle.uac_graph.specs.Needs.{depends_on, needed_units}
 use Rattle.uac_graph.specs.Wiring.{AreRendered, samples_on}
-use Rattle.uac_graph.proofs.InOrder.{all_rendered, none_rendered, order_for}
+use Rattle.uac_graph.proofs.WiringOrderLemmas.{all_rendered, none_rendered, order_for}
 use Rattle.uac_graph.proofs.NeedsLemmas.{all_units}
 use Rattle.uac_graph.proofs.graph.Graph.tick_by.Goals as goal
 

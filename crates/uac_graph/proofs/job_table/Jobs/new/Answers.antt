@@ -2,8 +2,8 @@ use Rattle.std.proofs.Common.{◌≡◌, ◌<◌, ap, sym, subst, arith, get_or,
 use Rattle.uac_entities.specs.declared.entity.Entity.{Entity}
 use Rattle.uac_graph.specs.GraphControls.{controls_in}
 use Rattle.uac_graph.specs.Jobs.{AreFirstJobs}
-use Rattle.uac_graph.proofs.Asking.{askable, no_jobs, one_job_more}
-use Rattle.uac_topology_rules.proofs.TableSteps.{at_read}
+use Rattle.uac_graph.proofs.JobsLemmas.{askable, no_jobs, one_job_more}
+use Rattle.uac_topology_rules.proofs.TableIdLemmas.{at_read}
 use Rattle.uac_graph.proofs.job_table.Jobs.new.Goals as goal
 
 pub loop-entity-init : goal.loop-entity-init

@@ -3,9 +3,9 @@ use Rattle.std.specs.Option.{option_map}
 use Rattle.std.proofs.lemmas.List.{length-map}
 use Rattle.uac_units.specs.Rendering.{in_a_row}
 use Rattle.uac_graph.specs.Wiring.{Frames, frame_on, samples_on}
-use Rattle.uac_graph.proofs.Rendered.{fits_unit, no_frame, passed_on, rendered_unit, row_small, wire_by}
-use Rattle.uac_graph.proofs.Reaching.{length-frame_of}
-use Rattle.uac_graph.proofs.Rows.{no_samples, same_wire}
+use Rattle.uac_graph.proofs.JobsMeaningLemmas.{fits_unit, no_frame, passed_on, rendered_unit, row_small, wire_by}
+use Rattle.uac_graph.proofs.MeaningReachLemmas.{length-frame_of}
+use Rattle.uac_graph.proofs.RenderingLemmas.{no_samples, same_wire}
 use Rattle.uac_graph.proofs.wires.Wires.render.Goals as goal
 
 pub returns-then-entity-eq0-clause-frames : goal.returns-then-entity-eq0-clause-frames

@@ -3,7 +3,7 @@ use Rattle.std.proofs.Common.{◌∙◌, ap, arith, map, List}
 use Rattle.std.proofs.lemmas.List.{take_all}
 use Rattle.uac_entities.specs.declared.stream.StreamInterface.{StreamInterface}
 use Rattle.uac_host.specs.HostKept.{resting_stream}
-use Rattle.uac_host.proofs.StandsAfterCalls.{stands_fresh}
+use Rattle.uac_host.proofs.HostKeptCallLemmas.{stands_fresh}
 use Rattle.uac_host.proofs.host.Host.new.Goals as goal
 
 pub returns : goal.returns

@@ -2,7 +2,7 @@
 use Rattle.std.proofs.Common.{◌≡◌, ◌∙◌, ℕ, ℤ, List, length, slice_get, Some, sym, ap, subst, arith}
 use Rattle.std.specs.Bool.{OnTrue}
 use Rattle.uac_pcm.proofs.PacketsLemmas.{length-frames_of_bytes}
-use Rattle.uac_host.proofs.StandsAfterCalls.{heard_nothing, heard_running, rests_in}
+use Rattle.uac_host.proofs.HostKeptCallLemmas.{heard_nothing, heard_running, rests_in}
 use Rattle.uac_host.proofs.host_streams.HostStream.hear.Goals as goal
 
 pub returns-in-Some-clause-there : goal.returns-in-Some-clause-there

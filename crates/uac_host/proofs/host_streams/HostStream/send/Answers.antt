@@ -1,6 +1,6 @@
 -- The stream and the track of the host stream are the world's.
 use Rattle.std.proofs.Common.{◌∙◌}
-use Rattle.uac_host.proofs.StandsAfterCalls.{host_stream_sends, rests_in, unsent}
+use Rattle.uac_host.proofs.HostKeptCallLemmas.{host_stream_sends, rests_in, unsent}
 use Rattle.uac_host.proofs.host_streams.HostStream.send.Goals as goal
 
 pub returns-in-Some-clause-size : goal.returns-in-Some-clause-size

@@ -1,5 +1,5 @@
 -- The device keeps a value for each control.
-use Rattle.uac_mixer.proofs.Made.{stored_by}
+use Rattle.uac_mixer.proofs.ViewLinksLemmas.{stored_by}
 use Rattle.uac_mixer.proofs.link.DeviceLink.act.Goals as goal
 
 pub invariant_of-self : goal.invariant_of-self

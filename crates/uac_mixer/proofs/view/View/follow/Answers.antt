@@ -1,7 +1,7 @@
 -- A request for none of the controls leaves the view.
 use Rattle.std.proofs.Common.{◌∙◌, sym}
 use Rattle.uac_mixer.specs.ViewTransfers.{came_of}
-use Rattle.uac_mixer.proofs.Apart.{none_left}
+use Rattle.uac_mixer.proofs.MixerElementsKeyLemmas.{none_left}
 use Rattle.uac_mixer.proofs.view.View.follow.Goals as goal
 
 pub returns-else-is_for_any : goal.returns-else-is_for_any

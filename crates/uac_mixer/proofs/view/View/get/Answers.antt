@@ -2,9 +2,9 @@
 use Rattle.std.proofs.Common.{◌∙◌, ◌<◌, ℕ, ap, refl, subst, w32}
 use Rattle.std.proofs.lemmas.Int.{to_z-of_z}
 use Rattle.uac_topology.specs.Function.{FunctionFields}
-use Rattle.uac_mixer.proofs.Calls.{names_it}
-use Rattle.uac_mixer.proofs.Made.{keyed}
-use Rattle.uac_mixer.proofs.Steps.{get_done, get_fails, get_some}
+use Rattle.uac_mixer.proofs.ViewTransfersLemmas.{names_it}
+use Rattle.uac_mixer.proofs.ViewLinksLemmas.{keyed}
+use Rattle.uac_mixer.proofs.ViewLinksCallLemmas.{get_done, get_fails, get_some}
 use Rattle.uac_mixer.proofs.view.View.get.Goals as goal
 
 pub transfer_at-requires-clause-named : goal.transfer_at-requires-clause-named

@@ -1,4 +1,4 @@
-use Rattle.uac_mixer.proofs.Made.{keyed, made, readable_made}
+use Rattle.uac_mixer.proofs.ViewLinksLemmas.{keyed, made, readable_made}
 use Rattle.uac_mixer.proofs.view.View.pass_on.Goals as goal
 
 pub returns-clause-keyed : goal.returns-clause-keyed

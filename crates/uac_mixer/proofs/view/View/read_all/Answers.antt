@@ -1,7 +1,7 @@
 -- Each element in turn, and where it broke.
 use Rattle.std.proofs.Common.{◌∙◌, ap, arith, length, refl, subst, sym}
 use Rattle.uac_mixer.specs.Agreement.{IsElementRead}
-use Rattle.uac_mixer.proofs.Reading.{as_long, at_err, element_there, none_of_err, read_broke, read_more, read_none, read_whole}
+use Rattle.uac_mixer.proofs.ViewLinksReadLemmas.{as_long, at_err, element_there, none_of_err, read_broke, read_more, read_none, read_whole}
 use Rattle.uac_mixer.proofs.view.View.read_all.Goals as goal
 
 pub loop-at-init : goal.loop-at-init

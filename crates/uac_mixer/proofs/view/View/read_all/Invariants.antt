@@ -1,5 +1,5 @@
 use Rattle.std.proofs.Common.{◌≡◌}
-use Rattle.uac_mixer.proofs.Reading.{HaveRead}
+use Rattle.uac_mixer.proofs.ViewLinksReadLemmas.{HaveRead}
 use Rattle.uac_mixer.proofs.view.View.read_all.Given as goal
 
 abbrev pub invariant-loop-at : goal.invariant-loop-at

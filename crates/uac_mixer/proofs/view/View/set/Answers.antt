@@ -4,8 +4,8 @@ use Rattle.std.proofs.lemmas.Int.{to_z-of_z}
 use Rattle.uac_topology.specs.Function.{FunctionFields}
 use Rattle.uac_request.specs.Requests.{value_bytes}
 use Rattle.uac_mixer.specs.declared.faults.SetFault.TheVariants as refusals
-use Rattle.uac_mixer.proofs.Calls.{names_it}
-use Rattle.uac_mixer.proofs.Steps.{set_all, set_answer}
+use Rattle.uac_mixer.proofs.ViewTransfersLemmas.{names_it}
+use Rattle.uac_mixer.proofs.ViewLinksCallLemmas.{set_all, set_answer}
 use Rattle.uac_mixer.proofs.view.View.set.Goals as goal
 
 pub transfer_at-requires-clause-named : goal.transfer_at-requires-clause-named

@@ -1,6 +1,6 @@
 use Rattle.std.proofs.Common.{◌∙◌, ap}
 use Rattle.uac_topology.specs.Function.{FunctionFields}
-use Rattle.uac_mixer.proofs.Made.{readable_step, view_step}
+use Rattle.uac_mixer.proofs.ViewLinksLemmas.{readable_step, view_step}
 use Rattle.uac_mixer.proofs.view.View.transfer.Goals as goal
 
 pub follow-requires : goal.follow-requires

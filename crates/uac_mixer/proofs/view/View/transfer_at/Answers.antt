@@ -1,7 +1,7 @@
 use Rattle.std.proofs.Common.{◌∙◌, ap}
 use Rattle.uac_topology.specs.Function.{FunctionFields}
-use Rattle.uac_mixer.proofs.Apart.{view_alone, viewed_apart}
-use Rattle.uac_mixer.proofs.Made.{readable_step, view_step}
+use Rattle.uac_mixer.proofs.MixerElementsKeyLemmas.{view_alone, viewed_apart}
+use Rattle.uac_mixer.proofs.ViewLinksLemmas.{readable_step, view_step}
 use Rattle.uac_mixer.proofs.view.View.transfer_at.Goals as goal
 
 pub follow_at-requires-clause-readable : goal.follow_at-requires-clause-readable

@@ -3,7 +3,7 @@ use Rattle.std.proofs.Common.{rules, ◌≡◌, ◌+◌, w32, pos, FitsSigned, t
 use Rattle.std.specs.Int.{int_wrap}
 use Rattle.std.proofs.Math.Nat.{mod-add-mod}
 use Rattle.std.proofs.lemmas.Int.{to_z-of_z}
-use Rattle.uac_pcm.proofs.Wrapping.{line_wraps, int_wrap-pos, noise_wraps}
+use Rattle.uac_pcm.proofs.TonesWrapLemmas.{line_wraps, int_wrap-pos, noise_wraps}
 use Rattle.uac_pcm.proofs.tones.Tone.sample.Goals as goal
 
 pub returns-in-Ramp : goal.returns-in-Ramp

@@ -1,7 +1,7 @@
 use Rattle.std.proofs.Common.{◌∙◌, w32}
 use Rattle.std.proofs.lemmas.Int.{to_z-of_z}
 use Rattle.uac_pcm.specs.Tones.{tone_sample}
-use Rattle.uac_pcm.proofs.Sounding.{one_sounded, two_sounded}
+use Rattle.uac_pcm.proofs.TonesFrameLemmas.{one_sounded, two_sounded}
 use Rattle.uac_pcm.proofs.tones.Tone.write.Goals as goal
 
 pub returns-then-samples-eq1 : goal.returns-then-samples-eq1

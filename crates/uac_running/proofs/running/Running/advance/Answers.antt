@@ -1,9 +1,9 @@
 use Rattle.std.proofs.Common.{◌∙◌, ap, sym, subst, refl}
 use Rattle.uac_running.specs.RunningKept.{RunningFields, RunningStands, more_counted}
-use Rattle.uac_device_streams.proofs.Turning.{turned_back}
+use Rattle.uac_device_streams.proofs.ListChangeLemmas.{turned_back}
 use Rattle.uac_running.proofs.RunningKeptLemmas.{clocks_of, clocks-more, domains_kept}
-use Rattle.uac_running.proofs.JackSteps.{jacks_kept}
-use Rattle.uac_running.proofs.Steps.{advanced_on, view_still}
+use Rattle.uac_running.proofs.RunningKeptJackLemmas.{jacks_kept}
+use Rattle.uac_running.proofs.EventsLemmas.{advanced_on, view_still}
 use Rattle.uac_running.specs.contracts.running.Running.{the_view}
 use Rattle.uac_running.proofs.running.Running.advance.Goals as goal
 

@@ -3,8 +3,8 @@ use Rattle.uac_host.specs.HostCalls.{with_samples}
 use Rattle.uac_streaming.specs.StreamingKept as streaming
 use Rattle.uac_running.specs.RunningWorld.{streaming_of, with_samples_on}
 use Rattle.uac_running.specs.RunningKept.{RunningFields, RunningStands, RunningStandsBetween}
-use Rattle.uac_running.proofs.SoFar.{ok_then}
-use Rattle.uac_running.proofs.Steps.{hosted}
+use Rattle.uac_running.proofs.TellingLemmas.{ok_then}
+use Rattle.uac_running.proofs.EventsLemmas.{hosted}
 use Rattle.uac_running.specs.contracts.running.Running.{the_view}
 use Rattle.uac_running.proofs.running.Running.append.Goals as goal
 

@@ -5,8 +5,8 @@ use Rattle.uac_transcript.specs.Printing.{Prints}
 use Rattle.uac_running.specs.RunningKept.{RunningStandsBetween}
 use Rattle.uac_configuration.specs.Configuration.{configuration_of}
 use Rattle.uac_running.specs.RunningTransfers.{comes_back, outcome_of, transfer, after_transfer}
-use Rattle.uac_running.proofs.SoFar.{at_ok}
-use Rattle.uac_running.proofs.RoomSteps.{transferred_room}
+use Rattle.uac_running.proofs.TellingLemmas.{at_ok}
+use Rattle.uac_running.proofs.RoomLemmas.{transferred_room}
 use Rattle.uac_running.proofs.running.Running.control.Goals as goal
 
 pub returns-clause-tells : goal.returns-clause-tells

@@ -5,8 +5,8 @@ use Rattle.uac_device.specs.DeviceWorld.{after_deviation}
 use Rattle.uac_streaming.specs.StreamingKept as streaming
 use Rattle.uac_running.specs.RunningWorld.{with_deviation}
 use Rattle.uac_running.specs.RunningKept.{RunningFields, RunningStands}
-use Rattle.uac_running.proofs.RoomSteps.{deviation_room}
-use Rattle.uac_running.proofs.Steps.{off}
+use Rattle.uac_running.proofs.RoomLemmas.{deviation_room}
+use Rattle.uac_running.proofs.EventsLemmas.{off}
 use Rattle.uac_running.specs.contracts.running.Running.{the_view}
 use Rattle.uac_running.proofs.running.Running.deviate.Goals as goal
 

@@ -4,7 +4,7 @@ use Rattle.uac_units.specs.MeterReadings.{readings}
 use Rattle.uac_streaming.specs.Telling.{Telling}
 use Rattle.uac_running.specs.RunningWorld.{RunningWorld}
 use Rattle.uac_running.specs.RunningKept.{RunningTells}
-use Rattle.uac_running.proofs.Steps.{domain_told}
+use Rattle.uac_running.proofs.EventsLemmas.{domain_told}
 use Rattle.uac_running.proofs.running.Running.domain_microframe.Goals as goal
 
 pub returns-clause-tells : goal.returns-clause-tells

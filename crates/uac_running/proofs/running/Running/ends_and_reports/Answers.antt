@@ -3,8 +3,8 @@ use Rattle.uac_script.specs.Line.{phrase_mark}
 use Rattle.uac_streaming.specs.StreamingWorld.{all_reported, all_settled}
 use Rattle.uac_running.specs.Events.{ends_and_reports, of_streams}
 use Rattle.uac_running.specs.RunningKept.{RunningFields, RunningStands}
-use Rattle.uac_running.proofs.Quiet.{quiet_ends_told}
-use Rattle.uac_running.proofs.SoFar.{front_then, tells_then}
+use Rattle.uac_running.proofs.SilencePacketLemmas.{quiet_ends_told}
+use Rattle.uac_running.proofs.TellingLemmas.{front_then, tells_then}
 use Rattle.uac_transcript.proofs.PrintingLemmas.{Tells-handed_on}
 use Rattle.uac_running.proofs.running.Running.ends_and_reports.Goals as goal
 

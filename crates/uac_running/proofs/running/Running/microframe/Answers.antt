@@ -5,10 +5,10 @@ use Rattle.uac_units.specs.MeterReadings.{readings}
 use Rattle.uac_edges.specs.Writing.{AppendsFront}
 use Rattle.uac_transcript.specs.Transcript.{Said}
 use Rattle.uac_transcript.specs.Printing.{text_of}
-use Rattle.uac_streaming.proofs.RoomOfDevices.{HaveSmallNumbers}
+use Rattle.uac_streaming.proofs.RoomDeviceLemmas.{HaveSmallNumbers}
 use Rattle.uac_running.specs.Events.{packets_and_ticks}
-use Rattle.uac_running.proofs.RoomSteps.{one_microframe, zeros_fit_in}
-use Rattle.uac_running.proofs.Steps.{microframe_front, microframe_next_front, microframe_told, number_line, numbered, passed}
+use Rattle.uac_running.proofs.RoomLemmas.{one_microframe, zeros_fit_in}
+use Rattle.uac_running.proofs.EventsLemmas.{microframe_front, microframe_next_front, microframe_told, number_line, numbered, passed}
 use Rattle.uac_transcript.proofs.PrintingLemmas.{Tells-handed_on}
 use Rattle.uac_running.proofs.running.Running.microframe.Goals as goal
 

@@ -2,10 +2,10 @@ use Rattle.std.proofs.Common.{ap, map, arith, ◌+◌, ◌-◌, ◌∙◌, refl,
 use Rattle.uac_script.specs.Line.{phrase_mark}
 use Rattle.uac_units.specs.MeterReadings.{readings}
 use Rattle.uac_running.specs.Events.{microframe, microframes}
-use Rattle.uac_streaming.proofs.RoomOfDevices.{HaveSmallNumbers}
+use Rattle.uac_streaming.proofs.RoomDeviceLemmas.{HaveSmallNumbers}
 use Rattle.uac_running.specs.RunningKept.{RunningFields, RunningStandsBetween}
-use Rattle.uac_running.proofs.SoFar.{begun, finished, one_more, stopped}
-use Rattle.uac_running.proofs.Steps.{microframes_end, microframes_split}
+use Rattle.uac_running.proofs.TellingLemmas.{begun, finished, one_more, stopped}
+use Rattle.uac_running.proofs.EventsLemmas.{microframes_end, microframes_split}
 use Rattle.uac_transcript.proofs.PrintingLemmas.{Tells-handed_on}
 use Rattle.uac_running.proofs.running.Running.microframes.Goals as goal
 

@@ -4,7 +4,7 @@ use Rattle.uac_units.specs.MeterReadings.{readings}
 use Rattle.uac_running.specs.RunningWorld.{RunningWorld}
 use Rattle.uac_running.specs.Events.{microframes}
 use Rattle.uac_running.specs.RunningKept.{RunningStandsBetween}
-use Rattle.uac_running.proofs.SoFar.{SoFar}
+use Rattle.uac_running.proofs.TellingLemmas.{SoFar}
 use Rattle.uac_running.proofs.running.Running.microframes.Given as goal
 
 abbrev pub invariant-loop-passed : goal.invariant-loop-passed

@@ -1,5 +1,5 @@
 use Rattle.std.proofs.Common.{refl}
-use Rattle.uac_running.proofs.Start.{domains_start, jacks_start, stands_start}
+use Rattle.uac_running.proofs.RunningKeptStartLemmas.{domains_start, jacks_start, stands_start}
 use Rattle.uac_running.proofs.running.Running.new.Goals as goal
 
 pub invariant_of-result : goal.invariant_of-result

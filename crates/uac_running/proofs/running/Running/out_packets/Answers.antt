@@ -5,9 +5,9 @@ use Rattle.uac_streaming.specs.StreamingWorld.{out_packets}
 use Rattle.uac_running.specs.RunningWorld.{streaming_of}
 use Rattle.uac_running.specs.RunningKept.{RunningFields, RunningStands}
 use Rattle.uac_running.proofs.RunningKeptLemmas.{domains_kept}
-use Rattle.uac_running.proofs.JackSteps.{jacks_kept}
-use Rattle.uac_running.proofs.Steps.{streams_told, view_still}
-use Rattle.uac_running.proofs.StreamSteps.{out_packets-keep}
+use Rattle.uac_running.proofs.RunningKeptJackLemmas.{jacks_kept}
+use Rattle.uac_running.proofs.EventsLemmas.{streams_told, view_still}
+use Rattle.uac_running.proofs.StreamingWorldLemmas.{out_packets-keep}
 use Rattle.uac_running.specs.contracts.running.Running.{the_view}
 use Rattle.uac_running.proofs.running.Running.out_packets.Goals as goal
 

@@ -3,8 +3,8 @@ use Rattle.uac_script.specs.Line.{phrase_mark}
 use Rattle.uac_streaming.specs.StreamingWorld.{in_packets, out_packets}
 use Rattle.uac_running.specs.Events.{of_streams}
 use Rattle.uac_running.specs.RunningKept.{RunningFields, RunningStands}
-use Rattle.uac_running.proofs.Quiet.{quiet_packets_told}
-use Rattle.uac_running.proofs.SoFar.{front_then, tells_then}
+use Rattle.uac_running.proofs.SilencePacketLemmas.{quiet_packets_told}
+use Rattle.uac_running.proofs.TellingLemmas.{front_then, tells_then}
 use Rattle.uac_transcript.proofs.PrintingLemmas.{Tells-handed_on}
 use Rattle.uac_running.proofs.running.Running.packets.Goals as goal
 

@@ -8,8 +8,8 @@ use Rattle.uac_running.specs.Events.{all_domains}
 use Rattle.uac_running.specs.RunningWorld.{RunningWorld}
 use Rattle.uac_running.specs.RunningKept.{RunningTells}
 use Rattle.uac_running.specs.Silence.{packets}
-use Rattle.uac_running.proofs.Quiet.{packets_first}
-use Rattle.uac_running.proofs.SoFar.{front_then, tells_then}
+use Rattle.uac_running.proofs.SilencePacketLemmas.{packets_first}
+use Rattle.uac_running.proofs.TellingLemmas.{front_then, tells_then}
 use Rattle.uac_transcript.proofs.PrintingLemmas.{Tells-handed_on}
 use Rattle.uac_running.proofs.running.Running.packets_and_ticks.Goals as goal
 

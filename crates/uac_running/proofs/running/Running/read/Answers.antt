@@ -6,7 +6,7 @@ use Rattle.uac_mixer.specs.ViewWorld.{ViewWorld}
 use Rattle.uac_running.specs.RunningKept.{RunningFields, RunningStands}
 use Rattle.uac_running.specs.RunningTransfers.{after_transfer}
 use Rattle.uac_running.proofs.RunningKeptLemmas.{domains_kept}
-use Rattle.uac_running.proofs.JackSteps.{jacks_kept}
+use Rattle.uac_running.proofs.RunningKeptJackLemmas.{jacks_kept}
 use Rattle.uac_running.proofs.RunningTransfersLemmas.{an_element, came_back, read_told, streams_stand, transfer_stands}
 use Rattle.uac_running.specs.contracts.running.Running.{the_view}
 use Rattle.uac_running.proofs.running.Running.read.Goals as goal

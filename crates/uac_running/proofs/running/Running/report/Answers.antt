@@ -2,7 +2,7 @@ use Rattle.std.proofs.Common.{◌∙◌, sym, subst}
 use Rattle.uac_units.specs.MeterReadings.{readings}
 use Rattle.uac_running.specs.RunningWorld.{streaming_of}
 use Rattle.uac_running.specs.RunningKept.{RunningFields, RunningStands}
-use Rattle.uac_running.proofs.Reporting.{head_front, report_whole}
+use Rattle.uac_running.proofs.RunningLinesReportLemmas.{head_front, report_whole}
 use Rattle.uac_running.specs.contracts.running.Running.{the_view}
 use Rattle.uac_edges.proofs.WritingLemmas.{Writes-handed_on}
 use Rattle.uac_running.proofs.running.Running.report.Goals as goal

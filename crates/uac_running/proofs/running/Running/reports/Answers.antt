@@ -4,8 +4,8 @@ use Rattle.uac_streaming.specs.StreamingKept as streaming
 use Rattle.uac_streaming.specs.StreamingWorld.{all_reported}
 use Rattle.uac_running.specs.RunningWorld.{streaming_of}
 use Rattle.uac_running.specs.RunningKept.{RunningFields, RunningStands}
-use Rattle.uac_running.proofs.Steps.{streams_told}
-use Rattle.uac_running.proofs.StreamSteps.{all_reported-keep}
+use Rattle.uac_running.proofs.EventsLemmas.{streams_told}
+use Rattle.uac_running.proofs.StreamingWorldLemmas.{all_reported-keep}
 use Rattle.uac_running.specs.contracts.running.Running.{the_view}
 use Rattle.uac_running.proofs.running.Running.reports.Goals as goal
 

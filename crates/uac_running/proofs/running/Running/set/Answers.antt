@@ -8,7 +8,7 @@ use Rattle.uac_mixer.specs.ViewWorld.{ViewWorld}
 use Rattle.uac_running.specs.RunningKept.{RunningFields, RunningStands}
 use Rattle.uac_running.specs.RunningTransfers.{comes_back, after_transfer}
 use Rattle.uac_running.proofs.RunningKeptLemmas.{domains_kept}
-use Rattle.uac_running.proofs.JackSteps.{jacks_kept}
+use Rattle.uac_running.proofs.RunningKeptJackLemmas.{jacks_kept}
 use Rattle.uac_running.proofs.RunningTransfersLemmas.{an_element, came_back, streams_stand, transfer_stands}
 use Rattle.uac_running.specs.contracts.running.Running.{the_view}
 use Rattle.uac_running.proofs.running.Running.set.Goals as goal

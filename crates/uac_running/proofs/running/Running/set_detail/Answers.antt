@@ -1,7 +1,7 @@
 use Rattle.std.proofs.Common.{sym, subst, refl}
 use Rattle.uac_running.specs.RunningWorld.{with_detail}
 use Rattle.uac_running.specs.RunningKept.{RunningFields, RunningStands}
-use Rattle.uac_running.proofs.Steps.{detailed}
+use Rattle.uac_running.proofs.EventsLemmas.{detailed}
 use Rattle.uac_running.specs.contracts.running.Running.{the_view}
 use Rattle.uac_running.proofs.running.Running.set_detail.Goals as goal
 

@@ -1,14 +1,14 @@
 use Rattle.std.proofs.Common.{◌≡◌, ◌∙◌, ap, sym, subst, rules, ℤ, Result, Err, to_z, of_z, w32}
 use Rattle.uac_request.specs.Requests.{value_bytes}
-use Rattle.uac_transcript.specs.Transcript.{was_broken, was_set, was_stalled}
+use Rattle.uac_transcript.specs.Transcript.{was_broken, was_set, element_was_stalled}
 use Rattle.uac_mixer.specs.declared.faults.SetFault.{SetFault}
 use Rattle.uac_mixer.specs.MixerElements.{width_of}
 use Rattle.uac_mixer.specs.ViewTransfers.{came_of_set, set_of}
 use Rattle.uac_running.specs.RunningKept.{RunningStands, RunningStandsBetween}
 use Rattle.uac_running.specs.RunningTransfers.{comes_back, set_element, set_sight, after_transfer}
-use Rattle.uac_running.proofs.SoFar.{at_ok}
-use Rattle.uac_running.proofs.RoomSteps.{transferred_room}
-use Rattle.uac_running.proofs.PrintedOutcomes.{sight_printed}
+use Rattle.uac_running.proofs.TellingLemmas.{at_ok}
+use Rattle.uac_running.proofs.RoomLemmas.{transferred_room}
+use Rattle.uac_running.proofs.RunningTransfersLineLemmas.{sight_printed}
 use Rattle.uac_running.proofs.running.Running.set_element.Goals as goal
 
 pub returns-in-Ok-clause-tells : goal.returns-in-Ok-clause-tells
@@ -39,7 +39,7 @@ returns-in-Err-Stalled-clause-tells g c meters r x stands at =
     (c.set.ensures.came meters r x stands.now at) in
     let told = sym (ap set_sight came) ∙ ap (λ (s : Result (Unit {0}) SetFault). set_sight (came_of_set s)) (c.in-Err-Stalled.is ∙ ap Err c.in-Err-Stalled.field-0-is) in (
       sight_printed (g.K.Sink.written c.args.sink.now) (g.K.Sink.written c.write_set_stalled.new.sink) c.write_set_stalled.result
-          (set_sight (comes_back (set_of r.device.function.control_interface x) (value_bytes (width_of x.kind) c.args.value) r)) (was_stalled c.in-Err-Stalled.rule) told c.write_set_stalled.ensures.written,
+          (set_sight (comes_back (set_of r.device.function.control_interface x) (value_bytes (width_of x.kind) c.args.value) r)) (element_was_stalled c.in-Err-Stalled.rule) told c.write_set_stalled.ensures.written,
       at_ok (RunningStandsBetween c.set.new.self meters (after_transfer (set_of r.device.function.control_interface x) (value_bytes (width_of x.kind) c.args.value) r)) c.write_set_stalled.result
           (record {
             now =

@@ -1,10 +1,10 @@
 use Rattle.std.proofs.Common.{sym, subst, refl}
 use Rattle.uac_running.specs.RunningWorld.{jack_with_tone, with_jack_tone}
 use Rattle.uac_running.specs.RunningKept.{RunningFields, RunningStands}
-use Rattle.uac_device_streams.proofs.Turning.{turned_back}
+use Rattle.uac_device_streams.proofs.ListChangeLemmas.{turned_back}
 use Rattle.uac_running.proofs.RunningKeptLemmas.{domains_kept}
-use Rattle.uac_running.proofs.JackSteps.{jacks_toned}
-use Rattle.uac_running.proofs.Steps.{toned_on}
+use Rattle.uac_running.proofs.RunningKeptJackLemmas.{jacks_toned}
+use Rattle.uac_running.proofs.EventsLemmas.{toned_on}
 use Rattle.uac_running.specs.contracts.running.Running.{the_view}
 use Rattle.uac_running.proofs.running.Running.set_tone.Goals as goal
 

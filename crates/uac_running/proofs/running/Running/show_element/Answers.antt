@@ -1,10 +1,10 @@
 use Rattle.std.proofs.Common.{◌≡◌, ◌∙◌, ap, sym, subst, rules, ℕ, List, to_z, of_z, w32}
 use Rattle.uac_edges.specs.Writing.{Writes}
-use Rattle.uac_transcript.specs.Transcript.{has_value, is_unknown, says_view, spelling_of}
+use Rattle.uac_transcript.specs.Transcript.{element_has_value, is_unknown, says_view, spelling_of}
 use Rattle.uac_mixer.specs.declared.element.Element.{Element}
 use Rattle.uac_mixer.specs.MixerElements.{name_of}
 use Rattle.uac_running.specs.RunningTransfers.{shown_sight}
-use Rattle.uac_running.proofs.PrintedOutcomes.{same_element, sight_printed}
+use Rattle.uac_running.proofs.RunningTransfersLineLemmas.{same_element, sight_printed}
 use Rattle.uac_running.proofs.running.Running.show_element.Goals as goal
 
 pub returns-in-Some-clause-printed : goal.returns-in-Some-clause-printed
@@ -12,9 +12,9 @@ returns-in-Some-clause-printed g c x at =
     let same : c.element_at-element.result ≡ x = same_element _ c.args.at c.element_at-element.result x c.element_at-element.ensures at in
     let exact : to_z w32 (of_z w32 c.in-Some.value) ≡ c.in-Some.value = search rules in
     sight_printed (g.K.Sink.written c.args.sink.now) (g.K.Sink.written c.write_value.new.sink) c.write_value.result (shown_sight x x.value)
-    (has_value (name_of x) (to_z w32 (of_z w32 c.in-Some.value)))
-    (ap (shown_sight x) (ap (λ (e : Element). e.value) (sym same) ∙ c.in-Some.is) ∙ ap (has_value (name_of x)) (sym exact))
-    (subst (λ (name : List ℕ). Writes (g.K.Sink.written c.args.sink.now) (g.K.Sink.written c.write_value.new.sink) c.write_value.result (spelling_of (says_view (has_value name (to_z w32 (of_z w32 c.in-Some.value))))))
+    (element_has_value (name_of x) (to_z w32 (of_z w32 c.in-Some.value)))
+    (ap (shown_sight x) (ap (λ (e : Element). e.value) (sym same) ∙ c.in-Some.is) ∙ ap (element_has_value (name_of x)) (sym exact))
+    (subst (λ (name : List ℕ). Writes (g.K.Sink.written c.args.sink.now) (g.K.Sink.written c.write_value.new.sink) c.write_value.result (spelling_of (says_view (element_has_value name (to_z w32 (of_z w32 c.in-Some.value))))))
     (c.as_bytes.ensures.text ∙ c.name-name.ensures ∙ ap name_of same) c.write_value.ensures.written)
 
 pub returns-in-None-clause-printed : goal.returns-in-None-clause-printed

@@ -4,12 +4,12 @@ use Rattle.uac_device.specs.DeviceWorld.{renders_of}
 use Rattle.uac_units.specs.MeterReadings.{readings}
 use Rattle.uac_running.specs.Events.{after_one, jacks_after_frame}
 use Rattle.uac_running.specs.RunningKept.{RunningFields, RunningStands}
-use Rattle.uac_device_streams.proofs.Turning.{turned_back}
+use Rattle.uac_device_streams.proofs.ListChangeLemmas.{turned_back}
 use Rattle.uac_running.proofs.RunningKeptLemmas.{domains_kept}
-use Rattle.uac_running.proofs.JackSteps.{jacks_gone_on}
-use Rattle.uac_running.proofs.Resting.{rests_after}
-use Rattle.uac_running.proofs.Steps.{gave, sounded, sounded_found, view_still}
-use Rattle.uac_running.proofs.Stillness.{still_gave}
+use Rattle.uac_running.proofs.RunningKeptJackLemmas.{jacks_gone_on}
+use Rattle.uac_running.proofs.SilenceLemmas.{rests_after}
+use Rattle.uac_running.proofs.EventsLemmas.{gave, sounded, sounded_found, view_still}
+use Rattle.uac_running.proofs.StillnessLemmas.{still_gave}
 use Rattle.uac_running.specs.contracts.running.Running.{the_view}
 use Rattle.uac_running.proofs.running.Running.sound.Goals as goal
 

@@ -1,5 +1,5 @@
 use Rattle.uac_units.specs.MeterReadings.{readings}
-use Rattle.uac_running.proofs.Steps.{tick_told}
+use Rattle.uac_running.proofs.EventsLemmas.{tick_told}
 use Rattle.uac_running.proofs.running.Running.tick.Goals as goal
 
 pub returns-clause-tells : goal.returns-clause-tells

@@ -2,9 +2,9 @@ use Rattle.std.proofs.Common.{◌∙◌, ap, arith, rules, ◌+◌, ◌-◌, ref
 use Rattle.uac_units.specs.MeterReadings.{readings}
 use Rattle.uac_running.specs.Events.{tick, tick_times}
 use Rattle.uac_running.specs.RunningKept.{RunningFields, RunningStands}
-use Rattle.uac_running.proofs.SoFar.{begun, finished, one_more_to, stopped}
-use Rattle.uac_running.proofs.Resting.{RestsSo, after_one_tick, begun_to_tick}
-use Rattle.uac_running.proofs.Steps.{ticks_end, ticks_split}
+use Rattle.uac_running.proofs.TellingLemmas.{begun, finished, one_more_to, stopped}
+use Rattle.uac_running.proofs.SilenceLemmas.{RestsSo, after_one_tick, begun_to_tick}
+use Rattle.uac_running.proofs.EventsLemmas.{ticks_end, ticks_split}
 use Rattle.uac_transcript.proofs.PrintingLemmas.{Tells-handed_on}
 use Rattle.uac_running.proofs.running.Running.ticks.Goals as goal
 

@@ -3,8 +3,8 @@ use Rattle.uac_units.specs.MeterReadings.{readings}
 use Rattle.uac_running.specs.RunningWorld.{RunningWorld}
 use Rattle.uac_running.specs.Events.{tick_times}
 use Rattle.uac_running.specs.RunningKept.{RunningStands}
-use Rattle.uac_running.proofs.SoFar.{SoFar}
-use Rattle.uac_running.proofs.Resting.{RestsSo}
+use Rattle.uac_running.proofs.TellingLemmas.{SoFar}
+use Rattle.uac_running.proofs.SilenceLemmas.{RestsSo}
 use Rattle.uac_running.proofs.running.Running.ticks.Given as goal
 
 abbrev pub invariant-loop-ticked : goal.invariant-loop-ticked

@@ -2,7 +2,7 @@ use Rattle.std.proofs.Common.{sym, subst, refl}
 use Rattle.uac_host.specs.HostCalls as calls
 use Rattle.uac_running.specs.RunningWorld.{streaming_of, with_track}
 use Rattle.uac_running.specs.RunningKept.{RunningFields, RunningStands}
-use Rattle.uac_running.proofs.Steps.{hosted}
+use Rattle.uac_running.proofs.EventsLemmas.{hosted}
 use Rattle.uac_running.specs.contracts.running.Running.{the_view}
 use Rattle.uac_running.proofs.running.Running.track.Goals as goal
 

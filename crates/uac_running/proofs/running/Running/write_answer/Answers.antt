@@ -2,9 +2,9 @@ use Rattle.std.proofs.Common.{ap, subst, ℕ, List, Some}
 use Rattle.uac_request.specs.Requests.{answer_fields}
 use Rattle.uac_request.specs.declared.reply.Answer.{Answer}
 use Rattle.uac_edges.specs.Writing.{Writes}
-use Rattle.uac_transcript.specs.Transcript.{gave, says_answer, spelling_of, stalled, was_done}
+use Rattle.uac_transcript.specs.Transcript.{gave, says_answer, spelling_of, transfer_was_stalled, was_done}
 use Rattle.uac_running.specs.RunningTransfers.{outcome_of, piece}
-use Rattle.uac_running.proofs.PrintedOutcomes.{outcome_printed}
+use Rattle.uac_running.proofs.RunningTransfersLineLemmas.{outcome_printed}
 use Rattle.uac_running.proofs.running.Running.write_answer.Goals as goal
 
 pub returns-in-Bytes-clause-printed : goal.returns-in-Bytes-clause-printed
@@ -35,6 +35,6 @@ pub returns-in-Stall-clause-printed : goal.returns-in-Stall-clause-printed
 unfolding outcome_of
 returns-in-Stall-clause-printed g c =
     outcome_printed (g.K.Sink.written c.args.sink.now) (g.K.Sink.written c.write_stalled.new.sink) c.write_stalled.result
-    (outcome_of c.args.self.now.configuration (Some (answer_fields c.args.answer.now))) (stalled c.in-Stall.rule)
+    (outcome_of c.args.self.now.configuration (Some (answer_fields c.args.answer.now))) (transfer_was_stalled c.in-Stall.rule)
     (ap (λ (answer : Answer). outcome_of c.args.self.now.configuration (Some (answer_fields answer))) c.in-Stall.is)
     c.write_stalled.ensures.written

@@ -4,7 +4,7 @@ use Rattle.uac_mixer.specs.declared.link.Broken.{Broken}
 use Rattle.uac_mixer.specs.ViewTransfers.{came_of}
 use Rattle.uac_transcript.specs.Transcript.{broke}
 use Rattle.uac_running.specs.RunningTransfers.{outcome_of}
-use Rattle.uac_running.proofs.PrintedOutcomes.{outcome_printed, outcome_seen}
+use Rattle.uac_running.proofs.RunningTransfersLineLemmas.{outcome_printed, outcome_seen}
 use Rattle.uac_running.proofs.running.Running.write_outcome.Goals as goal
 
 pub returns-in-Ok-clause-printed : goal.returns-in-Ok-clause-printed

@@ -1,4 +1,4 @@
-use Rattle.uac_script.proofs.Answered.{lent_keeps, lent_refuses}
+use Rattle.uac_script.proofs.LineParsingLemmas.{lent_keeps, lent_refuses}
 use Rattle.uac_script.proofs.lent.LentLine.read.Goals as goal
 
 pub returns : goal.returns

@@ -1,4 +1,4 @@
-use Rattle.uac_script.proofs.Answered.{read_says, read_keeps, read_refuses}
+use Rattle.uac_script.proofs.LineParsingLemmas.{read_says, read_keeps, read_refuses}
 use Rattle.uac_script.proofs.line.Line.read.Goals as goal
 
 pub returns : goal.returns

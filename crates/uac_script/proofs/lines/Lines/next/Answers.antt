@@ -1,7 +1,7 @@
 use Rattle.std.proofs.Common.{◌≡◌, ◌<◌, [], ◌++◌, length, refl, ap, ◌∙◌, arith, rules, length-append}
-use Rattle.uac_edges.proofs.Consuming.{Consumes-none, Consumes-Consumes}
-use Rattle.uac_script.proofs.Heads.{line_end_more}
-use Rattle.uac_script.proofs.Splittings.{stops_at_once, stops_later, same_at_first, same_more, others_kept, last_line, untold}
+use Rattle.uac_edges.proofs.KnownBytesLemmas.{Consumes-none, Consumes-Consumes}
+use Rattle.uac_script.proofs.ScriptLinesLemmas.{line_end_more}
+use Rattle.uac_script.proofs.ScriptLinesTakeLemmas.{stops_at_once, stops_later, same_at_first, same_more, others_kept, last_line, untold}
 use Rattle.uac_script.proofs.lines.Lines.next.Goals as goal
 
 pub returns-in-Ok-eq0-2-clause-splits : goal.returns-in-Ok-eq0-2-clause-splits

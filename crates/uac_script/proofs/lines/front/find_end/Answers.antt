@@ -1,7 +1,7 @@
 use Rattle.std.proofs.Common.{◌≡◌, drop, Some, None, ◌==◌, ap, ◌∙◌, sym, arith, length-drop}
 use Rattle.std.specs.List.{position}
 use Rattle.std.proofs.lemmas.List.{take_rest}
-use Rattle.uac_script.proofs.Heads.{line_end_following, line_end_found, line_end_missed}
+use Rattle.uac_script.proofs.ScriptLinesLemmas.{line_end_following, line_end_found, line_end_missed}
 use Rattle.uac_script.proofs.lines.front.find_end.Goals as goal
 
 pub returns-in-Some : goal.returns-in-Some

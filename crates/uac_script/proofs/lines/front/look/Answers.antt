@@ -1,7 +1,7 @@
 use Rattle.std.proofs.Common.{◌≡◌, ◌≤◌, length, take, ap, ◌∙◌, arith}
 use Rattle.std.proofs.lemmas.List.{length-take, take_all}
 use Rattle.uac_script.specs.Looking.{line_end}
-use Rattle.uac_script.proofs.Heads.{line_end_within, line_end_in, counted_is, head_long, head_line, head_past, head_unended}
+use Rattle.uac_script.proofs.ScriptLinesLemmas.{line_end_within, line_end_in, counted_is, head_long, head_line, head_past, head_unended}
 use Rattle.uac_script.proofs.lines.front.look.Goals as goal
 
 pub find_end-size-requires : goal.find_end-size-requires

@@ -1,4 +1,4 @@
-use Rattle.uac_store.proofs.Soundness.{keyed}
+use Rattle.uac_store.proofs.StoreControlsSoundLemmas.{keyed}
 use Rattle.uac_store.proofs.store.Store.new.Goals as goal
 
 pub start_values-requires : goal.start_values-requires

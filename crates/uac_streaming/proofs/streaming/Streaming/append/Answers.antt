@@ -2,7 +2,7 @@ use Rattle.std.proofs.Common.{refl, sym, subst}
 use Rattle.uac_host.specs.HostCalls.{with_samples}
 use Rattle.uac_streaming.specs.StreamingKept.{StreamingFields, StreamingStands}
 use Rattle.uac_streaming.specs.contracts.streaming.Streaming.{the_view}
-use Rattle.uac_streaming.proofs.Standing.{hosted, where_ok}
+use Rattle.uac_streaming.proofs.StreamingKeptLemmas.{hosted, where_ok}
 use Rattle.uac_streaming.proofs.streaming.Streaming.append.Goals as goal
 
 pub returns-clause-stands : goal.returns-clause-stands

@@ -1,7 +1,7 @@
 use Rattle.std.proofs.Common.{sym, ap, Bool, if◌then◌else◌}
 use Rattle.uac_transcript.specs.declared.report.StreamCounts.{StreamCounts}
 use Rattle.uac_streaming.specs.StreamingWorld.{one_missed}
-use Rattle.uac_streaming.proofs.Standing.{met_still, set_so}
+use Rattle.uac_streaming.proofs.StreamingKeptLemmas.{met_still, set_so}
 use Rattle.uac_streaming.proofs.streaming.Streaming.count_missed.Goals as goal
 
 pub returns-then-not-lost-clause-stands : goal.returns-then-not-lost-clause-stands

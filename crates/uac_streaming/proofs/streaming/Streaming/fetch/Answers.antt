@@ -3,7 +3,7 @@ use Rattle.uac_device.specs.DeviceWorld.{after_sending_packet}
 use Rattle.uac_streaming.specs.StreamingWorld.{StreamingWorld, packet_fetched}
 use Rattle.uac_streaming.specs.StreamingKept.{StreamingFields, StreamingStands}
 use Rattle.uac_streaming.specs.contracts.streaming.Streaming.{the_view}
-use Rattle.uac_streaming.proofs.Standing.{carried}
+use Rattle.uac_streaming.proofs.StreamingKeptLemmas.{carried}
 use Rattle.uac_streaming.proofs.streaming.Streaming.fetch.Goals as goal
 
 pub returns-clause-stands : goal.returns-clause-stands

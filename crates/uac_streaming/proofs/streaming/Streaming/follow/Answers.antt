@@ -4,7 +4,7 @@ use Rattle.uac_alt.specs.AltStreams.{stream_fields}
 use Rattle.uac_host.specs.HostCalls.{IsStreamOf}
 use Rattle.uac_streaming.specs.StreamingWorld.{after_following}
 use Rattle.uac_streaming.specs.StreamingKept.{StreamingStands}
-use Rattle.uac_streaming.proofs.Followed.{followed_nowhere, number_is}
+use Rattle.uac_streaming.proofs.StreamingKeptHostLemmas.{followed_nowhere, number_is}
 use Rattle.uac_streaming.proofs.streaming.Streaming.follow.Goals as goal
 
 pub set_stream-requires-clause-begun : goal.set_stream-requires-clause-begun

@@ -5,7 +5,7 @@ use Rattle.uac_host.specs.HostCalls.{heard_in}
 use Rattle.uac_streaming.specs.StreamingWorld.{in_lines, inward_turn, packet_fetched}
 use Rattle.uac_streaming.specs.StreamingKept.{StreamingFields, StreamingStands}
 use Rattle.uac_streaming.specs.contracts.streaming.Streaming.{the_view}
-use Rattle.uac_streaming.proofs.Turned.{in_rests, in_told, rests}
+use Rattle.uac_streaming.proofs.StreamingWorldLemmas.{in_rests, in_told, rests}
 use Rattle.uac_streaming.proofs.streaming.Streaming.in_packet.Goals as goal
 
 pub returns-then-not-due-clause-tells : goal.returns-then-not-due-clause-tells

@@ -7,7 +7,7 @@ use Rattle.uac_streaming.specs.Telling.{Telling, in_turn}
 use Rattle.uac_streaming.specs.StreamingWorld.{StreamingWorld, inward_turn}
 use Rattle.uac_streaming.specs.StreamingKept.{StreamingFields, StreamingStands}
 use Rattle.uac_streaming.proofs.TellingLemmas.{at_place, begun, turn_more, turn_stopped, turns_finished}
-use Rattle.uac_streaming.proofs.Turned.{in_packets_are}
+use Rattle.uac_streaming.proofs.StreamingWorldLemmas.{in_packets_are}
 use Rattle.uac_transcript.proofs.PrintingLemmas.{Tells-handed_on}
 use Rattle.uac_streaming.proofs.streaming.Streaming.in_packets.Goals as goal
 

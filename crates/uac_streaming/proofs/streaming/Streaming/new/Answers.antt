@@ -3,7 +3,7 @@ use Rattle.uac_host.specs.HostKept as hosts
 use Rattle.uac_host.specs.HostWorld.{fresh_host}
 use Rattle.uac_host.specs.declared.host_streams.HostStream.{HostStream}
 use Rattle.uac_streaming.specs.StreamingWorld.{comes_in, goes_out}
-use Rattle.uac_streaming.proofs.Standing.{stands_start}
+use Rattle.uac_streaming.proofs.StreamingKeptLemmas.{stands_start}
 use Rattle.uac_streaming.proofs.streaming.Streaming.new.Goals as goal
 
 pub returns : goal.returns

@@ -1,7 +1,7 @@
 use Rattle.std.proofs.Common.{map}
 use Rattle.uac_script.specs.Line.{phrase_mark}
 use Rattle.uac_streaming.specs.StreamingWorld.{outward_turn}
-use Rattle.uac_streaming.proofs.Turned.{out_rests, out_told, rests}
+use Rattle.uac_streaming.proofs.StreamingWorldLemmas.{out_rests, out_told, rests}
 use Rattle.uac_streaming.proofs.streaming.Streaming.out_packet.Goals as goal
 
 pub returns-then-not-due-clause-tells : goal.returns-then-not-due-clause-tells

@@ -8,5 +8,5 @@ pub returns-clause-stands : goal.returns-clause-stands
 unfolding report_made
 returns-clause-stands c d w stands same =
     let heard : StreamingWorld = record w { host = if c.args.lost then w.host else with_report c.args.interface c.args.value w.host } in
-    let told : StreamingWorld = record heard { history = given_at (stream_index w.device.function c.args.interface) (λ place. with_report_given place c.args.lost) w.history } in
+    let told : StreamingWorld = record heard { history = given_at (stream_index w.device.function c.args.interface) (λ index. with_report_given index c.args.lost) w.history } in
     c.count_missed.ensures.stands d told (c.count_report.ensures.stands d heard (c.take_report.ensures.stands d w stands) same) same

@@ -1,7 +1,7 @@
 use Rattle.std.proofs.Common.{◌∙◌, sym, map}
 use Rattle.uac_script.specs.Line.{phrase_mark}
 use Rattle.uac_streaming.specs.StreamingWorld.{report_turn}
-use Rattle.uac_streaming.proofs.Turned.{report_rests, report_told, rests}
+use Rattle.uac_streaming.proofs.StreamingWorldLemmas.{report_rests, report_told, rests}
 use Rattle.uac_streaming.proofs.streaming.Streaming.report_one.Goals as goal
 
 pub returns-in_default-clause-tells : goal.returns-in_default-clause-tells

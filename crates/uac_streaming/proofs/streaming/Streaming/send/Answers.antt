@@ -6,7 +6,7 @@ use Rattle.uac_host.specs.HostCalls.{after_host_packet}
 use Rattle.uac_streaming.specs.StreamingWorld.{StreamingWorld, after_arrival, counted_at, packet_sent, packet_to}
 use Rattle.uac_streaming.specs.StreamingKept.{StreamingFields, StreamingStands}
 use Rattle.uac_streaming.specs.contracts.streaming.Streaming.{the_view}
-use Rattle.uac_streaming.proofs.Standing.{carried, packet_is}
+use Rattle.uac_streaming.proofs.StreamingKeptLemmas.{carried, packet_is}
 use Rattle.uac_streaming.proofs.streaming.Streaming.send.Goals as goal
 
 pub returns-clause-stands : goal.returns-clause-stands

@@ -5,8 +5,8 @@ use Rattle.uac_alt.specs.AltStreams.{stream_fields}
 use Rattle.uac_host.specs.HostCalls.{IsStreamOf, with_stream}
 use Rattle.uac_streaming.specs.StreamingKept.{StreamingFields, StreamingStands}
 use Rattle.uac_streaming.specs.contracts.streaming.Streaming.{the_view}
-use Rattle.uac_streaming.proofs.Followed.{followed_so, seen_some}
-use Rattle.uac_streaming.proofs.Standing.{hosted}
+use Rattle.uac_streaming.proofs.StreamingKeptHostLemmas.{followed_so, seen_some}
+use Rattle.uac_streaming.proofs.StreamingKeptLemmas.{hosted}
 use Rattle.uac_streaming.proofs.streaming.Streaming.set_stream.Goals as goal
 
 pub returns-then-is_some : goal.returns-then-is_some

@@ -6,7 +6,7 @@ use Rattle.uac_streaming.specs.Telling.{Telling, in_turn}
 use Rattle.uac_streaming.specs.StreamingWorld.{StreamingWorld, settled_turn}
 use Rattle.uac_streaming.specs.StreamingKept.{StreamingFields, StreamingStands}
 use Rattle.uac_streaming.proofs.TellingLemmas.{at_place, begun, turn_more, turn_stopped, turns_finished}
-use Rattle.uac_streaming.proofs.Turned.{StandsBefore, all_settled_are, settled_failed, settled_next}
+use Rattle.uac_streaming.proofs.StreamingWorldLemmas.{StandsBefore, all_settled_are, settled_failed, settled_next}
 use Rattle.uac_transcript.proofs.PrintingLemmas.{Tells-handed_on}
 use Rattle.uac_streaming.proofs.streaming.Streaming.settle.Goals as goal
 

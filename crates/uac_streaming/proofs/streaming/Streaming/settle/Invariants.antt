@@ -3,7 +3,7 @@ use Rattle.uac_device.specs.DeviceWorld.{ZerosFitIn}
 use Rattle.uac_streaming.specs.StreamingWorld.{StreamingWorld, settled_turn}
 use Rattle.uac_streaming.specs.StreamingKept.{StreamingStands}
 use Rattle.uac_streaming.proofs.TellingLemmas.{InTurn}
-use Rattle.uac_streaming.proofs.Turned.{StandsBefore}
+use Rattle.uac_streaming.proofs.StreamingWorldLemmas.{StandsBefore}
 use Rattle.uac_streaming.proofs.streaming.Streaming.settle.Given as goal
 
 abbrev pub invariant-loop-at : goal.invariant-loop-at

@@ -2,7 +2,7 @@ use Rattle.std.proofs.Common.{refl, sym, subst, Bool, if◌then◌else◌}
 use Rattle.uac_host.specs.HostCalls.{with_report}
 use Rattle.uac_streaming.specs.StreamingKept.{StreamingFields, StreamingStands}
 use Rattle.uac_streaming.specs.contracts.streaming.Streaming.{the_view}
-use Rattle.uac_streaming.proofs.Standing.{hosted}
+use Rattle.uac_streaming.proofs.StreamingKeptLemmas.{hosted}
 use Rattle.uac_streaming.proofs.streaming.Streaming.take_report.Goals as goal
 
 pub returns-then-lost-clause-stands : goal.returns-then-lost-clause-stands

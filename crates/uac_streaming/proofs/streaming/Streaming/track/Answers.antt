@@ -2,7 +2,7 @@ use Rattle.std.proofs.Common.{refl, sym, subst}
 use Rattle.uac_host.specs.HostCalls.{with_track_tone}
 use Rattle.uac_streaming.specs.StreamingKept.{StreamingFields, StreamingStands}
 use Rattle.uac_streaming.specs.contracts.streaming.Streaming.{the_view}
-use Rattle.uac_streaming.proofs.Standing.{hosted}
+use Rattle.uac_streaming.proofs.StreamingKeptLemmas.{hosted}
 use Rattle.uac_streaming.proofs.streaming.Streaming.track.Goals as goal
 
 pub returns : goal.returns

@@ -12,8 +12,8 @@ pub returns : goal.returns
 returns c =
     let k = c.self.inside in
     let v : k.table ≡ c.args.self.now = c.self.view_is in
-    let below : c.args.place < length k.table = subst (λ (xs : List Entity). c.args.place < length xs) (sym v) c.requires in
+    let below : c.args.index < length k.table = subst (λ (xs : List Entity). c.args.index < length xs) (sym v) c.requires in
     c.differs.ensures
-    ∙ ap (λ (b : Behind). differs b c.args.clock) (get_or_read k.clocks.items c.args.place c.index.result.now (omega (arith, below, c.self.invariant.ticking.sized)) c.index.ensures clocks.Nothing)
-    ∙ sym (c.self.invariant.ticking.told c.args.place below c.args.clock)
-    ∙ ap (λ (xs : List Entity). list_any (λ x. not (x == c.args.clock)) (clocks_of xs c.args.place)) v
+    ∙ ap (λ (b : Behind). differs b c.args.clock) (get_or_read k.clocks.items c.args.index c.index.result.now (omega (arith, below, c.self.invariant.ticking.sized)) c.index.ensures clocks.Nothing)
+    ∙ sym (c.self.invariant.ticking.told c.args.index below c.args.clock)
+    ∙ ap (λ (xs : List Entity). list_any (λ x. not (x == c.args.clock)) (clocks_of xs c.args.index)) v

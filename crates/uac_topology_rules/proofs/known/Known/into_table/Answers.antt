@@ -2,7 +2,7 @@ use Rattle.std.proofs.Common.{◌≡◌, List, ap, ◌∙◌}
 use Rattle.uac_entities.specs.declared.entity.Cluster.{Cluster}
 use Rattle.uac_topology_rules.specs.Table.{with_clusters}
 use Rattle.uac_topology_rules.specs.Clusters.{with_own_clusters}
-use Rattle.uac_topology_rules.proofs.ClusterTable.{clustered_is}
+use Rattle.uac_topology_rules.proofs.TableClusterLemmas.{clustered_is}
 use Rattle.uac_topology_rules.proofs.known.Known.into_table.Goals as goal
 
 pub returns : goal.returns

@@ -1,6 +1,6 @@
 use Rattle.std.proofs.Common.{ℕ, List, sym, subst}
 use Rattle.uac_topology_rules.specs.Signals.{IsWalkable}
-use Rattle.uac_topology_rules.proofs.KnownSteps.{walkable_is, known_is}
+use Rattle.uac_topology_rules.proofs.SignalsLemmas.{walkable_is, known_is}
 use Rattle.uac_topology_rules.proofs.known.Known.new.Goals as goal
 
 pub clusters_of-requires : goal.clusters_of-requires

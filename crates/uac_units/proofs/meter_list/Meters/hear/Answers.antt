@@ -1,6 +1,6 @@
 use Rattle.std.proofs.Common.{ap, arith, get_or}
 use Rattle.uac_units.specs.Hearing.{after_hearing}
-use Rattle.uac_units.proofs.Listing.{changed_more}
+use Rattle.uac_units.proofs.MetersLemmas.{changed_more}
 use Rattle.uac_units.proofs.meter_list.Meters.hear.Goals as goal
 
 pub loop-at-preserved : goal.loop-at-preserved

@@ -1,5 +1,5 @@
 use Rattle.uac_units.specs.Hearing.{after_hearing}
-use Rattle.uac_units.proofs.Listing.{ChangedBelow}
+use Rattle.uac_units.proofs.MetersLemmas.{ChangedBelow}
 use Rattle.uac_units.proofs.meter_list.Meters.hear.Given as goal
 
 abbrev pub invariant-loop-at : goal.invariant-loop-at

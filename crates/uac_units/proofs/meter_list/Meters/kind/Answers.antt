@@ -1,4 +1,4 @@
-use Rattle.uac_units.proofs.Listing.{shown_at}
+use Rattle.uac_units.proofs.MetersLemmas.{shown_at}
 use Rattle.uac_units.proofs.meter_list.Meters.kind.Goals as goal
 
 pub returns : goal.returns

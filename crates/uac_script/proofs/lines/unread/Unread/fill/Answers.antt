@@ -1,6 +1,6 @@
 use Rattle.std.proofs.Common.{◌≡◌, ◌-◌, length, take, drop, ap, ◌∙◌, sym, arith, length-drop}
 use Rattle.std.proofs.lemmas.List.{length-take-le}
-use Rattle.uac_script.proofs.UnreadBytes.{filled}
+use Rattle.uac_script.proofs.UnreadLemmas.{filled}
 use Rattle.uac_script.proofs.lines.unread.Unread.fill.Goals as goal
 
 pub returns-clause-ok : goal.returns-clause-ok

@@ -1,6 +1,6 @@
 use Rattle.std.proofs.Common.{◌≡◌, ◌+◌, ◌-◌, ◌≤◌, length, take, drop, ap, ◌∙◌, sym, arith}
 use Rattle.std.proofs.lemmas.List.{length-take}
-use Rattle.uac_script.proofs.UnreadBytes.{skipped}
+use Rattle.uac_script.proofs.UnreadLemmas.{skipped}
 use Rattle.uac_script.proofs.lines.unread.Unread.skip.Goals as goal
 
 pub returns : goal.returns

@@ -1,0 +1,271 @@
+-- A sound function has a signal graph.
+use Rattle.std.proofs.Common.{◌≡◌, ◌∙◌, sym, ap, subst, refl, arith, ℕ, zero, suc, ◌*◌, ◌<◌, ◌≤◌, ◌==◌, ◌&&◌, ◌||◌, not, Bool, true, false, eqb, nat_lt, if◌then◌else◌, List, [], ◌∷◌, Option, Some, None, length, get_or, map, take, slice_get, count_ones}
+use Rattle.std.specs.List.{All, list_any}
+use Rattle.std.specs.Option.{option_map, option_map_or, is_none}
+use Rattle.std.proofs.lemmas.Bool.{eqb-true, eq-eqb, or_parts, ltb-false}
+use Rattle.std.proofs.lemmas.List.{get_or_default, get_or-take, length-take-le}
+use Rattle.std.proofs.lemmas.List.Sums.{position_or_len_is}
+use Rattle.uac_walk.specs.Walk.{links, has_walk}
+use Rattle.uac_walk.proofs.WalkLemmas.{none_at}
+use Rattle.uac_entities.specs.Entities.{entities_of, no_cluster}
+use Rattle.uac_entities.specs.declared.entity.Cluster.{Cluster}
+use Rattle.uac_entities.specs.declared.entity.Entity.{Entity}
+use Rattle.uac_entities.specs.declared.entity.EntityKind.{EntityKind}
+use Rattle.uac_entities.specs.declared.entity.EntityKind.TheVariants as kind
+use Rattle.uac_topology_rules.specs.Clusters.{cluster_of, cluster_step, with_own_clusters, inputs, pins, takes_over}
+use Rattle.uac_topology_rules.specs.Links.{is_clock, signal_links, signal_sources}
+use Rattle.uac_topology_rules.specs.Rules.{breaks_u2, breaks_u3, breaks_u4, breaks_u6, breaks_u8, breaks_u10, breaks_u14, has_own_cluster, is_output, is_selector, is_silent, too_large}
+use Rattle.uac_topology_rules.specs.Table.{at, first_index_of, kind_of, nothing, index_of, with_cluster}
+use Rattle.uac_topology_rules.proofs.ClustersLemmas.{cluster_is}
+use Rattle.uac_topology_rules.proofs.TableIdLemmas.{found_is}
+use Rattle.uac_topology.specs.Function.{FunctionFields}
+use Rattle.uac_topology.specs.Topology.{IsSoundFunction}
+use Rattle.uac_store.specs.StoreControls.{pins_of}
+use Rattle.uac_topology.proofs.ClustersLemmas.{with_own_clusters-at, length-with_own_clusters, same_index, seen_alike}
+use Rattle.uac_topology.proofs.TopologyRuleLemmas.{KeepsRules, rules_hold}
+use Rattle.uac_store.proofs.StoreControlsSoundLemmas.{same_pins}
+use Rattle.uac_graph.specs.Fitness.{FitsPins, IsSignalGraph}
+use Rattle.uac_graph.specs.Meaning.{entity}
+use Rattle.uac_graph.proofs.LinksLemmas.{links_at}
+use Rattle.uac_graph.proofs.EntitiesLemmas.{IsOne, one_source}
+
+-- the entities keep the rules, and those whose blocks name one source have one
+module _ (es : List Entity) (h : KeepsRules es) (one : (k : ℕ) → k < length es → IsOne (at es k).kind (at es k).sources) where
+  -- an id names the entity that has it
+  first_index : (k : ℕ) → k < length es → index_of es (at es k).id ≡ k
+  unfolding breaks_u2 at index_of
+  first_index k below =
+      position_or_len_is (λ (e : Entity). eqb e.id (at es k).id) es k nothing (omega arith)
+      (λ j before.
+      let early : j < length (take k es) = omega (arith, length-take-le k es) in
+      ap (λ (e : Entity). eqb e.id (at es k).id) (sym (get_or-take k es j nothing before))
+      ∙ none_at (λ (e : Entity). eqb e.id (at es k).id) (take k es) j nothing early (h.u2 k below))
+      (λ _. eq-eqb (at es k).id (at es k).id refl)
+
+  -- a source is an entity that puts out a signal: no clock entity and no output terminal
+  source_there : (k i : ℕ) → k < length es → i < length (signal_sources (at es k))
+      → (index_of es (get_or (signal_sources (at es k)) i 0) < length es)
+      × (is_clock (at es (index_of es (get_or (signal_sources (at es k)) i 0))).kind ≡ false)
+      × (is_output (at es (index_of es (get_or (signal_sources (at es k)) i 0))).kind ≡ false)
+  unfolding breaks_u3 breaks_u4 kind_of
+  source_there k i below inside =
+      let s = get_or (signal_sources (at es k)) i 0 in
+      by s (first_index_of es s) refl
+      (none_at (λ id. is_none (kind_of es id)) (signal_sources (at es k)) i 0 inside (h.u3 k below))
+      (none_at (λ id. is_silent (kind_of es id)) (signal_sources (at es k)) i 0 inside (h.u4 k below))
+    where
+      by : (s : ℕ) (o : Option ℕ) → first_index_of es s ≡ o → is_none (option_map (λ p. (at es p).kind) (first_index_of es s)) ≡ false
+          → is_silent (option_map (λ p. (at es p).kind) (first_index_of es s)) ≡ false
+          → (index_of es s < length es) × (is_clock (at es (index_of es s)).kind ≡ false) × (is_output (at es (index_of es s)).kind ≡ false)
+      by s None e some loud =
+          let no : true ≡ false = ap (λ o. is_none (option_map (λ (p : ℕ). (at es p).kind) o)) (sym e) ∙ some in absurd (cc)
+      by s (Some p) e some loud =
+          let is = found_is es s p (sym e) in
+          let silent = or_parts _ _ (ap (λ o. is_silent (option_map (λ (q : ℕ). (at es q).kind) o)) (sym e) ∙ loud) in (
+            omega (arith, is.0, is.1),
+            ap (λ (q : ℕ). is_clock (at es q).kind) is.1 ∙ silent.0,
+            ap (λ (q : ℕ). is_output (at es q).kind) is.1 ∙ silent.1,
+          )
+
+  -- the links of an entity, by its sources
+  sources_at : (k : ℕ) → is_clock (at es k).kind ≡ false → links (signal_links es) k ≡ map (index_of es) (at es k).sources
+  unfolding signal_sources
+  sources_at k signal = links_at es k ∙ ap (λ (b : Bool). map (index_of es) (if b then [] else (at es k).sources)) signal
+
+  -- an entity that takes over a cluster has that of its first source
+  taken_over : (k : ℕ) → k < length es → takes_over (at es k).kind ≡ true
+      → cluster_of es k ≡ option_map_or (cluster_of es) (slice_get (links (signal_links es) k) 0) no_cluster
+  unfolding breaks_u6 cluster_step
+  taken_over k below takes =
+      cluster_is es k (h.u6 k below)
+      ∙ ap (λ (b : Bool). if b then option_map_or (cluster_of es) (slice_get (links (signal_links es) k) 0) no_cluster else (at es k).cluster) takes
+
+  -- an entity with one source has its cluster
+  one_pin : (k : ℕ) → k < length es → is_clock (at es k).kind ≡ false → takes_over (at es k).kind ≡ true → length (at es k).sources ≡ 1
+      → pins es k ≡ (cluster_of es k).channels ∷ []
+  unfolding pins
+  one_pin k below signal takes one =
+      by (at es k).sources one (sources_at k signal) ∙ sym (ap (λ (c : Cluster). c.channels ∷ []) (taken_over k below takes))
+    where
+      by : (sources : List ℕ) → length sources ≡ 1 → links (signal_links es) k ≡ map (index_of es) sources
+          → pins es k ≡ (option_map_or (cluster_of es) (slice_get (links (signal_links es) k) 0) no_cluster).channels ∷ []
+      by [] o e = absurd (cc)
+      by (s ∷ []) o e =
+          ap (map (λ p. (cluster_of es p).channels)) e
+          ∙ sym (ap (λ ls. (option_map_or (cluster_of es) (slice_get ls 0) no_cluster).channels ∷ []) e)
+      by (s ∷ t ∷ rest) o e = absurd (omega arith)
+
+  -- an entity with a cluster of its own
+  own_cluster : (kd : EntityKind) → is_clock kd ≡ false → takes_over kd ≡ false → has_own_cluster kd ≡ true
+  own_cluster kind.InputTerminal c t = refl
+  own_cluster kind.Mixer c t = refl
+  own_cluster kind.ClockSource c t = absurd (cc)
+  own_cluster kind.ClockSelector c t = absurd (cc)
+  own_cluster kind.ClockMultiplier c t = absurd (cc)
+  own_cluster kind.OutputTerminal c t = absurd (cc)
+  own_cluster kind.Selector c t = absurd (cc)
+  own_cluster kind.Feature c t = absurd (cc)
+  own_cluster kind.Effect c t = absurd (cc)
+
+  own_channels : (k : ℕ) → k < length es → is_clock (at es k).kind ≡ false → takes_over (at es k).kind ≡ false → (cluster_of es k).channels ≤ 32
+  unfolding breaks_u6 breaks_u8 cluster_step
+  own_channels k below signal takes =
+      let own : cluster_of es k ≡ (at es k).cluster =
+      cluster_is es k (h.u6 k below)
+      ∙ ap (λ (b : Bool). if b then option_map_or (cluster_of es) (slice_get (links (signal_links es) k) 0) no_cluster else (at es k).cluster) takes in
+      let c = (at es k).cluster.channels in
+      let rule : (c == 0 || (nat_lt 32 c || nat_lt c (count_ones (at es k).cluster.locations))) ≡ false =
+      ap (λ (b : Bool). b && (c == 0 || (nat_lt 32 c || nat_lt c (count_ones (at es k).cluster.locations)))) (sym (own_cluster (at es k).kind signal takes)) ∙ h.u8 k below in
+      subst (λ (d : Cluster). d.channels ≤ 32) (sym own) (ltb-false 32 c (or_parts _ _ (or_parts _ _ rule).1).0)
+
+  -- no cluster has more than 32 channels
+  most_at : (n k : ℕ) → k < length es → has_walk (signal_links es) n k ≡ false → is_clock (at es k).kind ≡ false → (cluster_of es k).channels ≤ 32
+  unfolding has_walk signal_sources
+  most_at zero k below ends signal = absurd (cc)
+  most_at (suc n) k below ends signal = by_takes (takes_over (at es k).kind) refl (λ p. most_at n p)
+    where
+      here : list_any (has_walk (signal_links es) n) (map (index_of es) (at es k).sources) ≡ false
+      here = ap (list_any (has_walk (signal_links es) n)) (sym (sources_at k signal)) ∙ ends
+
+      there : (i : ℕ) → i < length (at es k).sources
+          → (index_of es (get_or (at es k).sources i 0) < length es) × (is_clock (at es (index_of es (get_or (at es k).sources i 0))).kind ≡ false)
+      there =
+          subst (λ (sources : List ℕ). (i : ℕ) → i < length sources
+          → (index_of es (get_or sources i 0) < length es) × (is_clock (at es (index_of es (get_or sources i 0))).kind ≡ false))
+          (ap (λ (b : Bool). if b then [] else (at es k).sources) signal) (λ i inside. let there = source_there k i below inside in (there.0, there.1))
+
+      first : (sources : List ℕ) → list_any (has_walk (signal_links es) n) (map (index_of es) sources) ≡ false
+          → ((i : ℕ) → i < length sources → (index_of es (get_or sources i 0) < length es) × (is_clock (at es (index_of es (get_or sources i 0))).kind ≡ false))
+          → ((p : ℕ) → p < length es → has_walk (signal_links es) n p ≡ false → is_clock (at es p).kind ≡ false → (cluster_of es p).channels ≤ 32)
+          → (option_map_or (cluster_of es) (slice_get (map (index_of es) sources) 0) no_cluster).channels ≤ 32
+      first [] none each shorter = omega arith
+      first (s ∷ rest) none each shorter =
+          let one = each 0 (omega arith) in
+          shorter (index_of es s) one.0 (or_parts _ _ none).0 one.1
+
+      by_takes : (b : Bool) → takes_over (at es k).kind ≡ b
+          → ((p : ℕ) → p < length es → has_walk (signal_links es) n p ≡ false → is_clock (at es p).kind ≡ false → (cluster_of es p).channels ≤ 32)
+          → (cluster_of es k).channels ≤ 32
+      by_takes true e shorter =
+          subst (λ (c : Cluster). c.channels ≤ 32) (sym (taken_over k below e ∙ ap (λ ls. option_map_or (cluster_of es) (slice_get ls 0) no_cluster) (sources_at k signal)))
+          (first (at es k).sources here there shorter)
+      by_takes false e shorter = own_channels k below signal e
+
+  -- the entity at an index, with its cluster
+  at_clustered : (k : ℕ) → k < length es → at (with_own_clusters es) k ≡ with_cluster (at es k) (cluster_of es k)
+  unfolding at
+  at_clustered k below = with_own_clusters-at es k nothing below
+
+  -- a source, with its cluster
+  entity_clustered : (s : ℕ) → index_of es s < length es → entity (with_own_clusters es) s ≡ with_cluster (at es (index_of es s)) (cluster_of es (index_of es s))
+  unfolding entity
+  entity_clustered s below = ap (at (with_own_clusters es)) (same_index es s) ∙ at_clustered (index_of es s) below
+
+  -- the pins of the entities with their clusters
+  pins_clustered : (k : ℕ) → is_clock (at es k).kind ≡ false → pins es k ≡ pins_of (with_own_clusters es) (at es k)
+  unfolding pins pins_of
+  pins_clustered k signal = ap (map (λ p. (cluster_of es p).channels)) (sources_at k signal) ∙ same_pins es (at es k).sources
+
+  -- a selector that has channels has pins
+  some_pins : (k : ℕ) → k < length es → takes_over (at es k).kind ≡ true → 0 < (cluster_of es k).channels → 0 < length (pins es k)
+  unfolding pins
+  some_pins k below takes some = by (links (signal_links es) k) refl
+    where
+      by : (ls : List ℕ) → links (signal_links es) k ≡ ls → 0 < length (map (λ p. (cluster_of es p).channels) (links (signal_links es) k))
+      by [] e =
+          let none : (cluster_of es k).channels ≡ 0 =
+          ap (λ (c : Cluster). c.channels) (taken_over k below takes)
+          ∙ ap (λ ls. (option_map_or (cluster_of es) (slice_get ls 0) no_cluster).channels) e in
+          absurd (omega arith)
+      by (p ∷ rest) e = omega (arith, ap (λ ls. length (map (λ p. (cluster_of es p).channels) ls)) e)
+
+  same_number : (a b : ℕ) → not (a == b) ≡ false → a ≡ b
+  same_number a b e = by (a == b) refl e
+    where
+      by : (t : Bool) → (a == b) ≡ t → not t ≡ false → a ≡ b
+      by true e n = eqb-true a b e
+      by false e n = absurd (cc)
+
+  -- pins fit
+  fits_at : (k : ℕ) → k < length es → (kd : EntityKind) → (at es k).kind ≡ kd → FitsPins kd (cluster_of es k).channels (pins es k)
+  unfolding breaks_u10 breaks_u14
+  fits_at k below kind.Mixer is =
+      let limits = (or_parts _ _ (h.u14 k below)).0 in
+      let sizes = or_parts _ _ (ap (λ kd. too_large kd (nat_lt 256 (inputs es k)) (nat_lt 256 (inputs es k * (cluster_of es k).channels))) (sym is) ∙ limits) in
+      (ltb-false 256 (inputs es k) sizes.0, ltb-false 256 (inputs es k * (cluster_of es k).channels) sizes.1)
+  fits_at k below kind.Selector is =
+      let limits = (or_parts _ _ (h.u14 k below)).0 in
+      let size = ap (λ kd. too_large kd (nat_lt 256 (inputs es k)) (nat_lt 256 (inputs es k * (cluster_of es k).channels))) (sym is) ∙ limits in
+      let each = ap (λ kd. is_selector kd && list_any (λ n. not (n == (cluster_of es k).channels)) (pins es k)) (sym is) ∙ h.u10 k below in (
+        ltb-false 256 (inputs es k) size,
+        some_pins k below (ap takes_over is),
+        λ i d inside. same_number _ _ (none_at (λ n. not (n == (cluster_of es k).channels)) (pins es k) i d inside each),
+      )
+  fits_at k below kind.Feature is =
+      one_pin k below (ap is_clock is) (ap takes_over is) (subst (λ kd. IsOne kd (at es k).sources) is (one k below))
+  fits_at k below kind.Effect is =
+      one_pin k below (ap is_clock is) (ap takes_over is) (subst (λ kd. IsOne kd (at es k).sources) is (one k below))
+  fits_at k below kind.OutputTerminal is =
+      one_pin k below (ap is_clock is) (ap takes_over is) (subst (λ kd. IsOne kd (at es k).sources) is (one k below))
+  fits_at k below kind.InputTerminal is = tt
+  fits_at k below kind.ClockSource is = tt
+  fits_at k below kind.ClockSelector is = tt
+  fits_at k below kind.ClockMultiplier is = tt
+
+  -- the same links
+  same_links : signal_links (with_own_clusters es) ≡ signal_links es
+  unfolding signal_sources
+  same_links =
+      (λ j. map (λ e. map (λ id. same_index es id j) (signal_sources e)) (with_own_clusters es))
+      ∙ seen_alike es [] (λ e. map (index_of es) (signal_sources e)) (λ e c. refl)
+
+  -- what holds of no source, seen with its cluster
+  sources_keep : (test : EntityKind → Bool)
+      → ((k i : ℕ) → k < length es → i < length (signal_sources (at es k)) → test (at es (index_of es (get_or (signal_sources (at es k)) i 0))).kind ≡ false)
+      → (k : ℕ) → k < length (with_own_clusters es) → All (λ s. test (entity (with_own_clusters es) s).kind ≡ false) (signal_sources (at (with_own_clusters es) k))
+  unfolding signal_sources
+  sources_keep test none k within =
+      let below : k < length es = omega (arith, within, length-with_own_clusters es) in
+      subst (λ (e : Entity). All (λ s. test (entity (with_own_clusters es) s).kind ≡ false) (signal_sources e)) (sym (at_clustered k below))
+      (λ i d inside.
+      let s = get_or (signal_sources (at es k)) i 0 in
+      subst (λ (n : ℕ). test (entity (with_own_clusters es) n).kind ≡ false) (get_or_default (signal_sources (at es k)) i 0 d inside)
+      (ap (λ (e : Entity). test e.kind) (entity_clustered s (source_there k i below inside).0) ∙ none k i below inside))
+
+  graph : IsSignalGraph (with_own_clusters es)
+  unfolding breaks_u6 signal_sources pins_of
+  graph = record {
+    distinct = λ k within.
+        let below : k < length es = omega (arith, within, length-with_own_clusters es) in
+        ap (λ (e : Entity). index_of (with_own_clusters es) e.id) (at_clustered k below) ∙ same_index es (at es k).id ∙ first_index k below;
+    heard = sources_keep is_clock (λ k i below inside. (source_there k i below inside).1);
+    no_ends = sources_keep is_output (λ k i below inside. (source_there k i below inside).2);
+    acyclic = λ k within.
+        let below : k < length es = omega (arith, within, length-with_own_clusters es) in
+        (λ j. has_walk (same_links j) (length-with_own_clusters es j) k) ∙ h.u6 k below;
+    most = λ k within signal.
+        let below : k < length es = omega (arith, within, length-with_own_clusters es) in
+        subst (λ (e : Entity). e.cluster.channels ≤ 32) (sym (at_clustered k below))
+        (most_at (length es) k below (h.u6 k below) (ap (λ (e : Entity). is_clock e.kind) (sym (at_clustered k below)) ∙ signal));
+    fits = λ k within.
+        let below : k < length es = omega (arith, within, length-with_own_clusters es) in
+        subst (λ (e : Entity). FitsPins e.kind e.cluster.channels (pins_of (with_own_clusters es) e)) (sym (at_clustered k below))
+        (by_signal k below (is_clock (at es k).kind) refl);
+  }
+    where
+      clock_fits : (kd : EntityKind) (channels : ℕ) (sizes : List ℕ) → is_clock kd ≡ true → FitsPins kd channels sizes
+      clock_fits kind.ClockSource channels sizes e = tt
+      clock_fits kind.ClockSelector channels sizes e = tt
+      clock_fits kind.ClockMultiplier channels sizes e = tt
+      clock_fits _ channels sizes e = absurd (cc)
+
+      by_signal : (k : ℕ) → k < length es → (b : Bool) → is_clock (at es k).kind ≡ b
+          → FitsPins (at es k).kind (cluster_of es k).channels (pins_of (with_own_clusters es) (at es k))
+      by_signal k below false signal =
+          subst (FitsPins (at es k).kind (cluster_of es k).channels) (pins_clustered k signal) (fits_at k below (at es k).kind refl)
+      by_signal k below true clock = clock_fits (at es k).kind (cluster_of es k).channels (pins_of (with_own_clusters es) (at es k)) clock
+
+pub sound_graph : (function : FunctionFields) → IsSoundFunction function → IsSignalGraph function.entities
+unfolding at
+sound_graph function sound =
+    subst IsSignalGraph (sym sound.2.entities) (graph (entities_of sound.0) (rules_hold sound.0 sound.1) (one_source sound.0 nothing))

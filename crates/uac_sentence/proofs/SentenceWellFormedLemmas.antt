@@ -1,0 +1,264 @@
+-- The blocks of a sentence are well-formed.
+use Rattle.std.proofs.Common.{◌≡◌, ℕ, ◌+◌, ◌<◌, ◌≤◌, length, get_or, drop, Bool, true, false, ◌&&◌, ◌||◌, not, List, [], ◌∷◌, Option, Some, None, if◌then◌else◌, ◌⊎◌, refl, sym, ap, ◌∙◌, subst, inl, inr}
+use Rattle.std.proofs.lemmas.Bool.{true≢false}
+use Rattle.uac_descriptor.specs.declared.context.Context.{Context}
+use Rattle.uac_descriptor.specs.declared.context.Context.TheVariants as context
+use Rattle.uac_descriptor.specs.declared.standard.Interface as interface
+use Rattle.uac_descriptor.specs.declared.block.Block as block
+use Rattle.uac_descriptor.specs.declared.block.Block.TheVariants as variant
+use Rattle.uac_descriptor.specs.Classes.{is_audio_association, is_control_interface, is_streaming_interface}
+use Rattle.std.proofs.lemmas.List.{drop_more, drop_all}
+use Rattle.uac_descriptor.specs.Contexts.{EachIn, context_after}
+use Rattle.uac_descriptor.specs.BlockTurns.{BeginsWithControl, InTurn, interface_of, interfaces_in}
+use Rattle.uac_descriptor.specs.WellFormed.{IsWellFormed, AreWellFormed}
+use Rattle.uac_sentence.specs.declared.letters.Letter.{Letter}
+use Rattle.uac_sentence.specs.declared.letters.Letter.TheVariants as letter
+use Rattle.uac_sentence.specs.declared.stages.OrderStage.{OrderStage}
+use Rattle.uac_sentence.specs.declared.stages.OrderStage.TheVariants.{Start, Due, Opening, Before, Announced}
+use Rattle.uac_sentence.specs.Grammar.{is_control, is_audio_interface, is_in_turn, used_after, latest_after}
+use Rattle.uac_sentence.specs.Letter.{letter_of, whole_letter, interface_letter, is_device, has_unknown_subtype, is_ordered_type, type_of}
+use Rattle.uac_sentence.specs.Sentence.{HasSmallNumbers, IsSentence}
+use Rattle.uac_sentence.specs.declared.states.Latest.{Latest}
+use Rattle.uac_sentence.specs.Steps.{next_stage, may_end}
+use Rattle.uac_sentence.specs.Values.{HasValues, has_wrong_value}
+use Rattle.uac_sentence.proofs.StepsLemmas.{Goes, allows_goes}
+pub use Rattle.uac_sentence.proofs.SentenceTurnLemmas.{IsTurning}
+use Rattle.uac_sentence.proofs.SentenceTurnLemmas.{turning_step, turning_stops, turning_ends}
+use Rattle.uac_sentence.proofs.ValuesLemmas.{EachIn-weaker, right_values, no_wrong_value}
+
+-- allowed values are well-formed ones
+keeps : (context : Context) (b : block.Block) → HasValues context b → IsWellFormed context b
+keeps context (variant.Endpoint e) h = h
+keeps context (variant.Mixer m) h = h
+keeps context (variant.Selector s) h = h.0
+keeps context (variant.ClockSelector c) h = h.0
+keeps context (variant.TypeOne t) h = h
+keeps context _ h = tt
+
+-- the control interface is still to come
+abbrev is_front : OrderStage → Bool
+is_front Start = true
+is_front Due = true
+is_front Opening = true
+is_front Before = true
+is_front Announced = true
+is_front _ = false
+
+-- a letter is the control interface, or no interface of the function and the control interface is still to come
+abbrev is_on : Letter → Option OrderStage → Bool
+is_on k None = true
+is_on k (Some t) = is_control k || not (is_audio_interface k) && is_front t
+
+steps_on : (s : OrderStage) (k : Letter) → is_front s ≡ true → is_on k (next_stage s k) ≡ true
+steps_on Start letter.Device front = refl
+steps_on Start k front = refl
+steps_on Due letter.Device front = refl
+steps_on Due k front = refl
+steps_on Opening letter.Device front = refl
+steps_on Opening k front = refl
+steps_on Before letter.Device front = refl
+steps_on Before k front = refl
+steps_on Announced letter.Device front = refl
+steps_on Announced k front = refl
+steps_on s k front = cc
+
+front_open : (s : OrderStage) → is_front s ≡ true → may_end s ≡ false
+front_open Start front = refl
+front_open Due front = refl
+front_open Opening front = refl
+front_open Before front = refl
+front_open Announced front = refl
+front_open s front = cc
+
+if_not : (t : Bool) (a b : Letter) → is_audio_interface a ≡ false → is_audio_interface b ≡ false → is_audio_interface (if t then a else b) ≡ false
+if_not true a b e f = e
+if_not false a b e f = f
+
+-- only an interface is one of the audio function
+no_audio : (b : block.Block) → interface_of b ≡ None → is_audio_interface (letter_of b) ≡ false
+unfolding whole_letter
+no_audio (variant.Interface i) none = cc
+no_audio (variant.Association a) none = if_not (is_audio_association a) letter.AudioAssociation letter.ForeignAssociation refl refl
+no_audio (variant.Foreign bytes) none =
+    if_not (is_device bytes) letter.Device _ refl
+    (if_not (has_unknown_subtype bytes) letter.UnknownSubtype _ refl (if_not (is_ordered_type (type_of bytes)) letter.Stray letter.Other refl refl))
+no_audio b none = refl
+
+other_control : (k : Letter) → is_audio_interface k ≡ false → is_control k ≡ false
+other_control letter.ControlInterface e = cc
+other_control k e = refl
+
+no_control : (b : block.Block) → interface_of b ≡ None → is_control (letter_of b) ≡ false
+no_control b none = other_control (letter_of b) (no_audio b none)
+
+still_front : (k : Letter) (t : OrderStage) → is_control k ≡ false → is_on k (Some t) ≡ true → is_front t ≡ true
+still_front k t other on = of (is_control k) (is_audio_interface k) (is_front t) other on where
+  of : (c a f : Bool) → c ≡ false → (c || not a && f) ≡ true → f ≡ true
+  of true a f e h = cc
+  of false true f e h = cc
+  of false false f e h = h
+
+-- the letter of an interface by two tests
+abbrev letter_by : Bool → Bool → Letter
+letter_by control streaming = if control then letter.ControlInterface else if streaming then letter.StreamingInterface else letter.ForeignInterface
+
+-- an interface that is on: the control interface, or another that does not stream
+interface_on : (c r : Bool) (t : OrderStage) → is_on (letter_by c r) (Some t) ≡ true → (c ≡ true) ⊎ ((not r ≡ true) × (is_front t ≡ true))
+interface_on true r t on = inl refl
+interface_on false true t on = cc
+interface_on false false t on = inr (refl, on)
+
+letter_is : (i : interface.Interface) → interface_letter i ≡ letter_by (is_control_interface i) (is_streaming_interface i)
+unfolding interface_letter
+letter_is i = refl
+
+begins : (s : OrderStage) (blocks : List block.Block) → is_front s ≡ true → Goes letter_of s blocks → BeginsWithControl (interfaces_in blocks)
+begins s [] front ends = absurd (true≢false (sym ends ∙ front_open s front))
+begins s (variant.Interface i ∷ blocks) front (t, e, goes) =
+    let on : is_on (letter_by (is_control_interface i) (is_streaming_interface i)) (Some t) ≡ true =
+    subst (λ k. is_on k (Some t) ≡ true) (letter_is i) (subst (λ o. is_on (interface_letter i) o ≡ true) e (steps_on s (interface_letter i) front)) in
+    elim (interface_on (is_control_interface i) (is_streaming_interface i) t on) [
+      | inl c ↦ inl c
+      | inr n ↦ inr (n.0, begins t blocks n.1 goes)
+    ]
+begins s (b ∷ blocks) front (t, e, goes) =
+    begins t blocks (still_front (letter_of b) t (no_control b refl) (subst (λ o. is_on (letter_of b) o ≡ true) e (steps_on s (letter_of b) front))) goes
+
+pub sentence_is_well_formed : (bytes : List ℕ) (blocks : List block.Block) → IsSentence bytes blocks → AreWellFormed blocks
+sentence_is_well_formed bytes blocks h =
+    record {
+      fields = EachIn-weaker HasValues IsWellFormed keeps context.DeviceFront blocks h.values;
+      control = begins Start blocks refl (allows_goes letter_of Start blocks h.order);
+      in_turn = h.in_turn;
+    }
+
+-- ---- the test, block by block
+
+-- the rest at a place begins with the block there
+rest_at : (xs : List block.Block) (i : ℕ) (b : block.Block) → i < length xs → b ≡ get_or xs i b → drop i xs ≡ b ∷ drop (i + 1) xs
+rest_at xs i b below is = drop_more xs i b below ∙ ap (λ x. x ∷ drop (i + 1) xs) (sym is)
+
+pub none_left : (P : List block.Block → Type 0) → P [] → (xs : List block.Block) (i : ℕ) → length xs ≤ i → P (drop i xs)
+none_left P base xs i past = subst P (sym (drop_all i xs past)) base
+
+-- values
+
+pub values_on : (context : Context) (xs : List block.Block) (i : ℕ) (b : block.Block) → i < length xs → b ≡ get_or xs i b → has_wrong_value context b ≡ false
+    → EachIn HasValues (context_after context b) (drop (i + 1) xs) → EachIn HasValues context (drop i xs)
+values_on context xs i b below is right rest =
+    subst (EachIn HasValues context) (sym (rest_at xs i b below is)) (right_values context b right, rest)
+
+pub values_back : (context : Context) (xs : List block.Block) (i : ℕ) (b : block.Block) → i < length xs → b ≡ get_or xs i b
+    → EachIn HasValues context (drop i xs) → EachIn HasValues (context_after context b) (drop (i + 1) xs)
+values_back context xs i b below is h = (subst (EachIn HasValues context) (rest_at xs i b below is) h).1
+
+pub values_stop : (context : Context) (xs : List block.Block) (i : ℕ) (b : block.Block) → i < length xs → b ≡ get_or xs i b → has_wrong_value context b ≡ true
+    → EachIn HasValues context (drop i xs) → false ≡ true
+values_stop context xs i b below is wrong h =
+    sym (no_wrong_value context b (subst (EachIn HasValues context) (rest_at xs i b below is) h).0) ∙ wrong
+
+-- the control interface
+
+control_by : (c r : Bool) → is_control (letter_by c r) ≡ true → c ≡ true
+control_by true r e = refl
+control_by false true e = cc
+control_by false false e = cc
+
+no_stream_by : (c r : Bool) → is_audio_interface (letter_by c r) ≡ false → not r ≡ true
+no_stream_by true r e = cc
+no_stream_by false true e = cc
+no_stream_by false false e = refl
+
+-- an interface that is no control interface and streams
+stream_by : (c r : Bool) → is_control (letter_by c r) ≡ false → is_audio_interface (letter_by c r) ≡ true → (c ≡ false) × (r ≡ true)
+stream_by true r e f = cc
+stream_by false true e f = (refl, refl)
+stream_by false false e f = cc
+
+begins_here : (b : block.Block) (bs : List block.Block) → is_control (letter_of b) ≡ true → BeginsWithControl (interfaces_in (b ∷ bs))
+begins_here (variant.Interface i) bs e =
+    inl (control_by (is_control_interface i) (is_streaming_interface i) (subst (λ k. is_control k ≡ true) (letter_is i) e))
+begins_here b bs e = absurd (true≢false (sym e ∙ no_control b refl))
+
+begins_later : (b : block.Block) (bs : List block.Block) → is_audio_interface (letter_of b) ≡ false → BeginsWithControl (interfaces_in bs)
+    → BeginsWithControl (interfaces_in (b ∷ bs))
+begins_later (variant.Interface i) bs e rest =
+    inr (no_stream_by (is_control_interface i) (is_streaming_interface i) (subst (λ k. is_audio_interface k ≡ false) (letter_is i) e), rest)
+begins_later b bs e rest = rest
+
+-- what is no interface of the function leaves the control interface to come
+begins_following : (b : block.Block) (bs : List block.Block) → is_control (letter_of b) ≡ false → BeginsWithControl (interfaces_in (b ∷ bs))
+    → BeginsWithControl (interfaces_in bs)
+begins_following (variant.Interface i) bs e h =
+    elim h [
+      | inl control ↦ absurd (true≢false (sym (controls (is_control_interface i) (is_streaming_interface i) control)
+          ∙ subst (λ k. is_control k ≡ false) (letter_is i) e))
+      | inr later ↦ later.1
+    ]
+  where
+    controls : (c r : Bool) → c ≡ true → is_control (letter_by c r) ≡ true
+    controls true r e = refl
+    controls false r e = cc
+begins_following b bs e h = h
+
+-- a streaming interface that comes first is no control interface
+begins_not : (b : block.Block) (bs : List block.Block) → is_control (letter_of b) ≡ false → is_audio_interface (letter_of b) ≡ true
+    → BeginsWithControl (interfaces_in (b ∷ bs)) → false ≡ true
+begins_not (variant.Interface i) bs e f h =
+    let (other, streams) = stream_by (is_control_interface i) (is_streaming_interface i) (subst (λ k. is_control k ≡ false) (letter_is i) e)
+    (subst (λ k. is_audio_interface k ≡ true) (letter_is i) f) in
+    elim h [
+      | inl control ↦ sym other ∙ control
+      | inr later ↦ ap not (sym streams) ∙ later.0
+    ]
+begins_not b bs e f h = sym (no_audio b refl) ∙ f
+
+pub control_at : (xs : List block.Block) (i : ℕ) (b : block.Block) → i < length xs → b ≡ get_or xs i b → is_control (letter_of b) ≡ true
+    → BeginsWithControl (interfaces_in (drop i xs))
+control_at xs i b below is e = subst (λ bs. BeginsWithControl (interfaces_in bs)) (sym (rest_at xs i b below is)) (begins_here b (drop (i + 1) xs) e)
+
+pub control_on : (xs : List block.Block) (i : ℕ) (b : block.Block) → i < length xs → b ≡ get_or xs i b → is_audio_interface (letter_of b) ≡ false
+    → BeginsWithControl (interfaces_in (drop (i + 1) xs)) → BeginsWithControl (interfaces_in (drop i xs))
+control_on xs i b below is e rest =
+    subst (λ bs. BeginsWithControl (interfaces_in bs)) (sym (rest_at xs i b below is)) (begins_later b (drop (i + 1) xs) e rest)
+
+pub control_back : (xs : List block.Block) (i : ℕ) (b : block.Block) → i < length xs → b ≡ get_or xs i b → is_control (letter_of b) ≡ false
+    → BeginsWithControl (interfaces_in (drop i xs)) → BeginsWithControl (interfaces_in (drop (i + 1) xs))
+control_back xs i b below is e h =
+    begins_following b (drop (i + 1) xs) e (subst (λ bs. BeginsWithControl (interfaces_in bs)) (rest_at xs i b below is) h)
+
+pub control_stops : (xs : List block.Block) (i : ℕ) (b : block.Block) → i < length xs → b ≡ get_or xs i b → is_control (letter_of b) ≡ false
+    → is_audio_interface (letter_of b) ≡ true → BeginsWithControl (interfaces_in (drop i xs)) → false ≡ true
+control_stops xs i b below is e f h =
+    begins_not b (drop (i + 1) xs) e f (subst (λ bs. BeginsWithControl (interfaces_in bs)) (rest_at xs i b below is) h)
+
+pub control_ends : (xs : List block.Block) (i : ℕ) → length xs ≤ i → BeginsWithControl (interfaces_in (drop i xs)) → false ≡ true
+control_ends xs i past h = absurd (subst (λ bs. BeginsWithControl (interfaces_in bs)) (drop_all i xs past) h)
+
+-- the numbers in turn
+
+pub turn_on : (used : List Bool) (latest : Option Latest) (xs : List block.Block) (i : ℕ) (b : block.Block) → i < length xs → b ≡ get_or xs i b
+    → HasSmallNumbers (b ∷ []) → is_in_turn used latest b ≡ true → IsTurning used latest xs (drop i xs)
+    → IsTurning (used_after used b) (latest_after latest b) xs (drop (i + 1) xs)
+turn_on used latest xs i b below is small turn t =
+    turning_step used latest xs b (drop (i + 1) xs) small turn (subst (IsTurning used latest xs) (rest_at xs i b below is) t)
+
+pub turn_stops : (used : List Bool) (latest : Option Latest) (xs : List block.Block) (i : ℕ) (b : block.Block) → i < length xs → b ≡ get_or xs i b
+    → HasSmallNumbers (b ∷ []) → is_in_turn used latest b ≡ false → IsTurning used latest xs (drop i xs) → InTurn [] (interfaces_in xs) → false ≡ true
+turn_stops used latest xs i b below is small out t h =
+    turning_stops used latest xs b (drop (i + 1) xs) small out (subst (IsTurning used latest xs) (rest_at xs i b below is) t) h
+
+pub turn_ends : (used : List Bool) (latest : Option Latest) (xs : List block.Block) (i : ℕ) → length xs ≤ i → IsTurning used latest xs (drop i xs)
+    → InTurn [] (interfaces_in xs)
+turn_ends used latest xs i past t = turning_ends used latest xs (subst (IsTurning used latest xs) (drop_all i xs past) t)
+
+-- ---- all three
+
+pub well_formed_by : (blocks : List block.Block) → EachIn HasValues context.DeviceFront blocks → BeginsWithControl (interfaces_in blocks)
+    → InTurn [] (interfaces_in blocks) → AreWellFormed blocks
+well_formed_by blocks values control turn =
+    record { fields = EachIn-weaker HasValues IsWellFormed keeps context.DeviceFront blocks values; control = control; in_turn = turn }
+
+pub sentence_passes : (bytes : List ℕ) (blocks : List block.Block) → IsSentence bytes blocks
+    → EachIn HasValues context.DeviceFront blocks × BeginsWithControl (interfaces_in blocks) × InTurn [] (interfaces_in blocks)
+sentence_passes bytes blocks h = (h.values, (sentence_is_well_formed bytes blocks h).control, h.in_turn)
