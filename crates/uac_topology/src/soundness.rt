@@ -21,6 +21,17 @@ pub enum CheckStop {
     NoMemory,
 }
 
+impl From<NoMemory> for CheckStop {
+    ghost use Rattle.std.specs.Prelude.{◌≡◌};
+    ghost use Rattle.uac_topology.specs.declared.soundness.CheckStop.TheVariants as stops;
+
+    ghost from_gives = { λ _ e. e ≡ stops.NoMemory };
+
+    fn from(_refused: NoMemory) -> CheckStop {
+        CheckStop::NoMemory
+    }
+}
+
 /// What the rules say of the blocks.
 enum Judged {
     Sound(Function),
@@ -35,10 +46,9 @@ pub fn check(alloc: Global, blocks: &[Block]) -> Result<Function, CheckStop>
     ensures sound { IfOk result (λ function. IsSound blocks.now × IsFunctionOf function blocks.now) }
     ensures broken { IfErr result (λ stop. IsStopAt stop (first_fault_of blocks.now)) }
 {
-    match judge(alloc, blocks) {
-        Ok(Judged::Sound(function)) => Ok(function),
-        Ok(Judged::Broken(fault)) => Err(CheckStop::Fault(fault)),
-        Err(NoMemory) => Err(CheckStop::NoMemory),
+    match judge(alloc, blocks)? {
+        Judged::Sound(function) => Ok(function),
+        Judged::Broken(fault) => Err(CheckStop::Fault(fault)),
     }
 }
 
