@@ -1,5 +1,5 @@
 -- A sound function has a signal graph.
-use Rattle.std.proofs.Common.{◌≡◌, ◌∙◌, sym, ap, subst, refl, arith, ℕ, zero, suc, ◌*◌, ◌<◌, ◌≤◌, ◌==◌, ◌&&◌, ◌||◌, not, Bool, true, false, eqb, nat_lt, if◌then◌else◌, List, [], ◌∷◌, Option, Some, None, length, get_or, map, take, slice_get, count_ones}
+use Rattle.std.proofs.Common.{◌≡◌, ◌∙◌, sym, ap, subst, refl, arith, ℕ, ◌*◌, ◌<◌, ◌≤◌, ◌==◌, ◌&&◌, not, Bool, true, false, eqb, nat_lt, if◌then◌else◌, List, [], ◌∷◌, Option, Some, None, length, get_or, map, take, slice_get}
 use Rattle.std.specs.List.{All, list_any}
 use Rattle.std.specs.Option.{option_map, option_map_or, is_none}
 use Rattle.std.proofs.lemmas.Bool.{eqb-true, eq-eqb, or_parts, ltb-false}
@@ -14,14 +14,16 @@ use Rattle.uac_entities.specs.declared.entity.EntityKind.{EntityKind}
 use Rattle.uac_entities.specs.declared.entity.EntityKind.TheVariants as kind
 use Rattle.uac_topology_rules.specs.Clusters.{cluster_of, cluster_step, with_own_clusters, inputs, pins, takes_over}
 use Rattle.uac_topology_rules.specs.Links.{is_clock, signal_links, signal_sources}
-use Rattle.uac_topology_rules.specs.Rules.{breaks_u2, breaks_u3, breaks_u4, breaks_u6, breaks_u8, breaks_u10, breaks_u14, has_own_cluster, is_output, is_selector, is_silent, too_large}
+use Rattle.uac_topology_rules.specs.Rules.{breaks_u2, breaks_u3, breaks_u4, breaks_u6, breaks_u10, breaks_u14, is_output, is_selector, is_silent, too_large}
 use Rattle.uac_topology_rules.specs.Table.{at, first_index_of, kind_of, nothing, index_of, with_cluster}
 use Rattle.uac_topology_rules.proofs.ClustersLemmas.{cluster_is}
 use Rattle.uac_topology_rules.proofs.TableIdLemmas.{found_is}
 use Rattle.uac_topology.specs.Function.{FunctionFields}
+use Rattle.uac_topology.specs.FunctionKept.{HaveChannels}
 use Rattle.uac_topology.specs.Topology.{IsSoundFunction}
 use Rattle.uac_store.specs.StoreControls.{pins_of}
 use Rattle.uac_topology.proofs.ClustersLemmas.{with_own_clusters-at, length-with_own_clusters, same_index, seen_alike}
+use Rattle.uac_topology.proofs.FunctionKeptChannelLemmas.{have_channels}
 use Rattle.uac_topology.proofs.TopologyRuleLemmas.{KeepsRules, rules_hold}
 use Rattle.uac_store.proofs.StoreControlsSoundLemmas.{same_pins}
 use Rattle.uac_graph.specs.Fitness.{FitsPins, IsSignalGraph}
@@ -29,8 +31,9 @@ use Rattle.uac_graph.specs.Meaning.{entity}
 use Rattle.uac_graph.proofs.LinksLemmas.{links_at}
 use Rattle.uac_graph.proofs.EntitiesLemmas.{IsOne, one_source}
 
--- the entities keep the rules, and those whose blocks name one source have one
-module _ (es : List Entity) (h : KeepsRules es) (one : (k : ℕ) → k < length es → IsOne (at es k).kind (at es k).sources) where
+-- the entities keep the rules, those whose blocks name one source have one, and with their clusters they have channels
+module _ (es : List Entity) (h : KeepsRules es) (one : (k : ℕ) → k < length es → IsOne (at es k).kind (at es k).sources)
+    (have : HaveChannels (with_own_clusters es)) where
   -- an id names the entity that has it
   first_index : (k : ℕ) → k < length es → index_of es (at es k).id ≡ k
   unfolding breaks_u2 at index_of
@@ -95,62 +98,6 @@ module _ (es : List Entity) (h : KeepsRules es) (one : (k : ℕ) → k < length 
           ∙ sym (ap (λ ls. (option_map_or (cluster_of es) (slice_get ls 0) no_cluster).channels ∷ []) e)
       by (s ∷ t ∷ rest) o e = absurd (omega arith)
 
-  -- an entity with a cluster of its own
-  own_cluster : (kd : EntityKind) → is_clock kd ≡ false → takes_over kd ≡ false → has_own_cluster kd ≡ true
-  own_cluster kind.InputTerminal c t = refl
-  own_cluster kind.Mixer c t = refl
-  own_cluster kind.ClockSource c t = absurd (cc)
-  own_cluster kind.ClockSelector c t = absurd (cc)
-  own_cluster kind.ClockMultiplier c t = absurd (cc)
-  own_cluster kind.OutputTerminal c t = absurd (cc)
-  own_cluster kind.Selector c t = absurd (cc)
-  own_cluster kind.Feature c t = absurd (cc)
-  own_cluster kind.Effect c t = absurd (cc)
-
-  own_channels : (k : ℕ) → k < length es → is_clock (at es k).kind ≡ false → takes_over (at es k).kind ≡ false → (cluster_of es k).channels ≤ 32
-  unfolding breaks_u6 breaks_u8 cluster_step
-  own_channels k below signal takes =
-      let own : cluster_of es k ≡ (at es k).cluster =
-      cluster_is es k (h.u6 k below)
-      ∙ ap (λ (b : Bool). if b then option_map_or (cluster_of es) (slice_get (links (signal_links es) k) 0) no_cluster else (at es k).cluster) takes in
-      let c = (at es k).cluster.channels in
-      let rule : (c == 0 || (nat_lt 32 c || nat_lt c (count_ones (at es k).cluster.locations))) ≡ false =
-      ap (λ (b : Bool). b && (c == 0 || (nat_lt 32 c || nat_lt c (count_ones (at es k).cluster.locations)))) (sym (own_cluster (at es k).kind signal takes)) ∙ h.u8 k below in
-      subst (λ (d : Cluster). d.channels ≤ 32) (sym own) (ltb-false 32 c (or_parts _ _ (or_parts _ _ rule).1).0)
-
-  -- no cluster has more than 32 channels
-  most_at : (n k : ℕ) → k < length es → has_walk (signal_links es) n k ≡ false → is_clock (at es k).kind ≡ false → (cluster_of es k).channels ≤ 32
-  unfolding has_walk signal_sources
-  most_at zero k below ends signal = absurd (cc)
-  most_at (suc n) k below ends signal = by_takes (takes_over (at es k).kind) refl (λ p. most_at n p)
-    where
-      here : list_any (has_walk (signal_links es) n) (map (index_of es) (at es k).sources) ≡ false
-      here = ap (list_any (has_walk (signal_links es) n)) (sym (sources_at k signal)) ∙ ends
-
-      there : (i : ℕ) → i < length (at es k).sources
-          → (index_of es (get_or (at es k).sources i 0) < length es) × (is_clock (at es (index_of es (get_or (at es k).sources i 0))).kind ≡ false)
-      there =
-          subst (λ (sources : List ℕ). (i : ℕ) → i < length sources
-          → (index_of es (get_or sources i 0) < length es) × (is_clock (at es (index_of es (get_or sources i 0))).kind ≡ false))
-          (ap (λ (b : Bool). if b then [] else (at es k).sources) signal) (λ i inside. let there = source_there k i below inside in (there.0, there.1))
-
-      first : (sources : List ℕ) → list_any (has_walk (signal_links es) n) (map (index_of es) sources) ≡ false
-          → ((i : ℕ) → i < length sources → (index_of es (get_or sources i 0) < length es) × (is_clock (at es (index_of es (get_or sources i 0))).kind ≡ false))
-          → ((p : ℕ) → p < length es → has_walk (signal_links es) n p ≡ false → is_clock (at es p).kind ≡ false → (cluster_of es p).channels ≤ 32)
-          → (option_map_or (cluster_of es) (slice_get (map (index_of es) sources) 0) no_cluster).channels ≤ 32
-      first [] none each shorter = omega arith
-      first (s ∷ rest) none each shorter =
-          let one = each 0 (omega arith) in
-          shorter (index_of es s) one.0 (or_parts _ _ none).0 one.1
-
-      by_takes : (b : Bool) → takes_over (at es k).kind ≡ b
-          → ((p : ℕ) → p < length es → has_walk (signal_links es) n p ≡ false → is_clock (at es p).kind ≡ false → (cluster_of es p).channels ≤ 32)
-          → (cluster_of es k).channels ≤ 32
-      by_takes true e shorter =
-          subst (λ (c : Cluster). c.channels ≤ 32) (sym (taken_over k below e ∙ ap (λ ls. option_map_or (cluster_of es) (slice_get ls 0) no_cluster) (sources_at k signal)))
-          (first (at es k).sources here there shorter)
-      by_takes false e shorter = own_channels k below signal e
-
   -- the entity at an index, with its cluster
   at_clustered : (k : ℕ) → k < length es → at (with_own_clusters es) k ≡ with_cluster (at es k) (cluster_of es k)
   unfolding at
@@ -166,17 +113,22 @@ module _ (es : List Entity) (h : KeepsRules es) (one : (k : ℕ) → k < length 
   unfolding pins pins_of
   pins_clustered k signal = ap (map (λ p. (cluster_of es p).channels)) (sources_at k signal) ∙ same_pins es (at es k).sources
 
-  -- a selector that has channels has pins
-  some_pins : (k : ℕ) → k < length es → takes_over (at es k).kind ≡ true → 0 < (cluster_of es k).channels → 0 < length (pins es k)
-  unfolding pins
-  some_pins k below takes some = by (links (signal_links es) k) refl
+  -- a selector has pins
+  some_pins : (k : ℕ) → k < length es → is_clock (at es k).kind ≡ false → takes_over (at es k).kind ≡ true → 0 < length (pins es k)
+  unfolding pins at
+  some_pins k below signal takes = by (links (signal_links es) k) refl
     where
+      some : 1 ≤ (cluster_of es k).channels
+      some =
+          (subst (λ (e : Entity). is_clock e.kind ≡ false → (1 ≤ e.cluster.channels) × (e.cluster.channels ≤ 32)) (at_clustered k below)
+          (have k nothing (omega (arith, below, length-with_own_clusters es))) signal).0
+
       by : (ls : List ℕ) → links (signal_links es) k ≡ ls → 0 < length (map (λ p. (cluster_of es p).channels) (links (signal_links es) k))
       by [] e =
           let none : (cluster_of es k).channels ≡ 0 =
           ap (λ (c : Cluster). c.channels) (taken_over k below takes)
           ∙ ap (λ ls. (option_map_or (cluster_of es) (slice_get ls 0) no_cluster).channels) e in
-          absurd (omega arith)
+          absurd (omega (arith, some, none))
       by (p ∷ rest) e = omega (arith, ap (λ ls. length (map (λ p. (cluster_of es p).channels) ls)) e)
 
   same_number : (a b : ℕ) → not (a == b) ≡ false → a ≡ b
@@ -198,7 +150,7 @@ module _ (es : List Entity) (h : KeepsRules es) (one : (k : ℕ) → k < length 
       let size = ap (λ kd. too_large kd (nat_lt 256 (inputs es k)) (nat_lt 256 (inputs es k * (cluster_of es k).channels))) (sym is) ∙ limits in
       let each = ap (λ kd. is_selector kd && list_any (λ n. not (n == (cluster_of es k).channels)) (pins es k)) (sym is) ∙ h.u10 k below in (
         ltb-false 256 (inputs es k) size,
-        some_pins k below (ap takes_over is),
+        some_pins k below (ap is_clock is) (ap takes_over is),
         λ i d inside. same_number _ _ (none_at (λ n. not (n == (cluster_of es k).channels)) (pins es k) i d inside each),
       )
   fits_at k below kind.Feature is =
@@ -233,7 +185,7 @@ module _ (es : List Entity) (h : KeepsRules es) (one : (k : ℕ) → k < length 
       (ap (λ (e : Entity). test e.kind) (entity_clustered s (source_there k i below inside).0) ∙ none k i below inside))
 
   graph : IsSignalGraph (with_own_clusters es)
-  unfolding breaks_u6 signal_sources pins_of
+  unfolding breaks_u6 signal_sources pins_of at
   graph = record {
     distinct = λ k within.
         let below : k < length es = omega (arith, within, length-with_own_clusters es) in
@@ -243,10 +195,8 @@ module _ (es : List Entity) (h : KeepsRules es) (one : (k : ℕ) → k < length 
     acyclic = λ k within.
         let below : k < length es = omega (arith, within, length-with_own_clusters es) in
         (λ j. has_walk (same_links j) (length-with_own_clusters es j) k) ∙ h.u6 k below;
-    most = λ k within signal.
-        let below : k < length es = omega (arith, within, length-with_own_clusters es) in
-        subst (λ (e : Entity). e.cluster.channels ≤ 32) (sym (at_clustered k below))
-        (most_at (length es) k below (h.u6 k below) (ap (λ (e : Entity). is_clock e.kind) (sym (at_clustered k below)) ∙ signal));
+    some = λ k within signal. (have k nothing within signal).0;
+    most = λ k within signal. (have k nothing within signal).1;
     fits = λ k within.
         let below : k < length es = omega (arith, within, length-with_own_clusters es) in
         subst (λ (e : Entity). FitsPins e.kind e.cluster.channels (pins_of (with_own_clusters es) e)) (sym (at_clustered k below))
@@ -268,4 +218,5 @@ module _ (es : List Entity) (h : KeepsRules es) (one : (k : ℕ) → k < length 
 pub sound_graph : (function : FunctionFields) → IsSoundFunction function → IsSignalGraph function.entities
 unfolding at
 sound_graph function sound =
-    subst IsSignalGraph (sym sound.2.entities) (graph (entities_of sound.0) (rules_hold sound.0 sound.1) (one_source sound.0 nothing))
+    subst IsSignalGraph (sym sound.2.entities)
+    (graph (entities_of sound.0) (rules_hold sound.0 sound.1) (one_source sound.0 nothing) (subst HaveChannels sound.2.entities (have_channels function sound)))

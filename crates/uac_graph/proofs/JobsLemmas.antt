@@ -24,7 +24,7 @@ use Rattle.uac_graph.proofs.JobsMeaningLemmas.{few_pins, range_same}
 -- an entity of the table
 pub askable : (entities : List Entity) (index : ℕ) (e : Entity) → IsSignalGraph entities → index < length entities → e ≡ at entities index → IsAskable entities e
 askable entities index e sound inside here =
-    subst (IsAskable entities) (sym here) (record { most = sound.most index inside; fits = sound.fits index inside })
+    subst (IsAskable entities) (sym here) (record { some = sound.some index inside; most = sound.most index inside; fits = sound.fits index inside })
 
 pins_few : (k : EntityKind) (u : UnitKind) (channels : ℕ) (pins : List ℕ) → unit_of k ≡ Some u → (is_clock k ≡ false → channels ≤ 32) → FitsPins k channels pins → sum pins ≤ 256
 pins_few kind.Mixer u channels pins e most fits = fits.0
@@ -50,23 +50,23 @@ pub gains_few : (entities : List Entity) (e : Entity) (u : UnitKind) → unit_of
     → gain_count u e.cluster.channels (sum (pins_of entities e)) ≤ 256
 gains_few entities e u is askable = gains_by e.kind u e.cluster.channels (pins_of entities e) is askable.most askable.fits
 
-selector_by : (k : EntityKind) (u : UnitKind) (channels : ℕ) (pins : List ℕ) → unit_of k ≡ Some u → u ≡ unit.Selector → 1 ≤ channels → FitsPins k channels pins
+selector_by : (k : EntityKind) (u : UnitKind) (channels : ℕ) (pins : List ℕ) → unit_of k ≡ Some u → u ≡ unit.Selector → (is_clock k ≡ false → 1 ≤ channels) → FitsPins k channels pins
     → length pins ≤ 256
-selector_by kind.Selector unit.Selector channels pins e chosen some fits = omega (arith, few_pins channels pins some fits.2, fits.0)
+selector_by kind.Selector unit.Selector channels pins e chosen some fits = omega (arith, few_pins channels pins (some refl) fits.2, fits.0)
 selector_by kind.Mixer _ channels pins e chosen some fits = absurd (cc)
 selector_by _ _ channels pins e chosen some fits = absurd (cc)
 
 -- a selector's pins are at most 256
-pub sources_few : (entities : List Entity) (e : Entity) (u : UnitKind) → unit_of e.kind ≡ Some u → IsAskable entities e → u ≡ unit.Selector → 1 ≤ e.cluster.channels
+pub sources_few : (entities : List Entity) (e : Entity) (u : UnitKind) → unit_of e.kind ≡ Some u → IsAskable entities e → u ≡ unit.Selector
     → length e.sources ≤ 256
 unfolding pins_of
-sources_few entities e u is askable chosen some =
-    omega (arith, selector_by e.kind u e.cluster.channels (pins_of entities e) is chosen some askable.fits, length-map e.sources (Rattle.uac_entities.specs.EntityInterfaces.channels_of entities))
+sources_few entities e u is askable chosen =
+    omega (arith, selector_by e.kind u e.cluster.channels (pins_of entities e) is chosen askable.some askable.fits, length-map e.sources (Rattle.uac_entities.specs.EntityInterfaces.channels_of entities))
 
 -- what it is asked is its job
 pub is_asked : (controls : Controls) (e : Entity) (u : UnitKind) (inputs row : ℕ) (job : Job) → unit_of e.kind ≡ Some u → inputs ≡ row
     → IsJob controls e.id u e.cluster.channels (length e.sources) inputs job → HasJob controls e row job
-is_asked controls e u inputs row job is same asked v other some =
+is_asked controls e u inputs row job is same asked v other =
     let own : u ≡ v = one_kind (unit_of e.kind) u v is other in
     subst (λ (w : UnitKind). IsJob controls e.id w e.cluster.channels (length e.sources) row job) own
     (subst (λ (n : ℕ). IsJob controls e.id u e.cluster.channels (length e.sources) n job) same asked)
@@ -144,8 +144,8 @@ module _ (before after : Controls) (id : ℕ) (same : (selector channel : ℕ) �
 -- another entity's job stays
 other_job : (before after : Controls) (id : ℕ) (e : Entity) (inputs : ℕ) (job : Job) → AreSameBut id before after → (e.id ≡ id → ⊥) → HasJob before e inputs job
     → HasJob after e inputs job
-other_job before after id e inputs job same other has u is some =
-    same_job before after e.id (λ selector channel. same e.id selector channel other) u e.cluster.channels (length e.sources) inputs job (has u is some)
+other_job before after id e inputs job same other has u is =
+    same_job before after e.id (λ selector channel. same e.id selector channel other) u e.cluster.channels (length e.sources) inputs job (has u is)
 
 -- an entity at another index has another id
 other_id : (entities : List Entity) (id k : ℕ) → IsSignalGraph entities → k < length entities → (k ≡ index_of entities id → ⊥) → (at entities k).id ≡ id → ⊥

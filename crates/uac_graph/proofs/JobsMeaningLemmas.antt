@@ -75,7 +75,7 @@ selector_sample : (controls : Controls) (id channels : ℕ) (frames : List (List
     → (channel : ℕ) → channel < channels
     → pins_sample unit.Selector job (in_a_row frames) channel ≡ sample_of controls id kind.Selector channels frames channel
 selector_sample controls id channels frames job is fits channel below =
-    let some : 0 < length frames = omega (arith, fits.pins.1 (omega arith), length-map frames (length {A = ℤ})) in
+    let some : 0 < length frames = omega (arith, fits.pins.1, length-map frames (length {A = ℤ})) in
     let each : All (λ frame. length frame ≡ job.outputs) frames = λ k d inside. of_lengths frames channels fits.pins.2 k d inside ∙ sym is.outputs in
     selector-in_a_row job frames channel each (omega (arith, is.pin, chosen-below controls id (length frames) some)) (omega (arith, is.outputs))
     ∙ ap (λ (p : ℕ). input (get_or frames p []) channel) is.pin
@@ -152,14 +152,14 @@ sum_same channels (p ∷ pins) each =
 pub few_pins : (channels : ℕ) (pins : List ℕ) → 1 ≤ channels → All (λ p. p ≡ channels) pins → length pins ≤ sum pins
 few_pins channels pins some each = let e = sum_same channels pins each in grind arith
 
-numbers : (controls : Controls) (id : ℕ) (k : EntityKind) (u : UnitKind) (channels : ℕ) (frames : List (List ℤ)) (job : Job) → 1 ≤ channels → unit_of k ≡ Some u
+numbers : (controls : Controls) (id : ℕ) (k : EntityKind) (u : UnitKind) (channels : ℕ) (frames : List (List ℤ)) (job : Job) → unit_of k ≡ Some u
     → IsJob controls id u channels (length frames) (length (in_a_row frames)) job → FitsFrames k channels frames
     → FitsNumbers u job.outputs job.pin (length job.gains.items) (length (in_a_row frames))
-numbers controls id kind.Mixer unit.Mixer channels frames job some e is fits =
+numbers controls id kind.Mixer unit.Mixer channels frames job e is fits =
     ap length is.gains ∙ length-map-range_with_len (gain_at controls id unit.Mixer) 0 (length (in_a_row frames) * channels)
     ∙ ap (λ n. length (in_a_row frames) * n) (sym is.outputs)
-numbers controls id kind.Selector unit.Selector channels frames job some e is fits =
-    let any : 0 < length frames = omega (arith, fits.pins.1 some, length-map frames (length {A = ℤ})) in
+numbers controls id kind.Selector unit.Selector channels frames job e is fits =
+    let any : 0 < length frames = omega (arith, fits.pins.1, length-map frames (length {A = ℤ})) in
     let pin : job.pin < length frames = omega (arith, is.pin, chosen-below controls id (length frames) any) in
     let inputs : length (in_a_row frames) ≡ length frames * channels =
     length-in_a_row frames ∙ sum_same channels (map length frames) fits.pins.2 ∙ ap (λ n. n * channels) (length-map frames (length {A = ℤ})) in
@@ -167,21 +167,21 @@ numbers controls id kind.Selector unit.Selector channels frames job some e is fi
   where
     within : (pin pins channels outputs inputs : ℕ) → pin < pins → outputs ≡ channels → inputs ≡ pins * channels → (pin + 1) * outputs ≤ inputs
     within pin pins channels outputs inputs below o i = grind arith
-numbers controls id kind.Feature unit.Feature channels frames job some e is fits = (
+numbers controls id kind.Feature unit.Feature channels frames job e is fits = (
   one_row frames channels fits.pins ∙ sym is.outputs,
   ap length is.gains ∙ length-map-range_with_len (gain_at controls id unit.Feature) 0 (2 * channels) ∙ ap (λ n. 2 * n) (sym is.outputs),
 )
-numbers controls id kind.Effect unit.Effect channels frames job some e is fits = one_row frames channels fits.pins ∙ sym is.outputs
-numbers controls id _ _ channels frames job some e is fits = absurd (cc)
+numbers controls id kind.Effect unit.Effect channels frames job e is fits = one_row frames channels fits.pins ∙ sym is.outputs
+numbers controls id _ _ channels frames job e is fits = absurd (cc)
 
 -- the job fits its unit
-pub fits_kind : (controls : Controls) (id : ℕ) (k : EntityKind) (u : UnitKind) (channels : ℕ) (frames : List (List ℤ)) (job : Job) → 1 ≤ channels → unit_of k ≡ Some u
+pub fits_kind : (controls : Controls) (id : ℕ) (k : EntityKind) (u : UnitKind) (channels : ℕ) (frames : List (List ℤ)) (job : Job) → unit_of k ≡ Some u
     → IsJob controls id u channels (length frames) (length (in_a_row frames)) job → FitsFrames k channels frames
     → FitsKind u job (in_a_row frames)
-fits_kind controls id k u channels frames job some e is fits = record {
-  some = omega (arith, is.outputs);
+fits_kind controls id k u channels frames job e is fits = record {
+  some = omega (arith, is.outputs, fits.some);
   most = omega (arith, is.outputs, fits.most);
-  numbers = numbers controls id k u channels frames job some e is fits;
+  numbers = numbers controls id k u channels frames job e is fits;
 }
 
 -- the inputs of a unit or an output terminal are at most 256
@@ -192,23 +192,6 @@ row_small kind.Feature channels frames fits = omega (arith, one_row frames chann
 row_small kind.Effect channels frames fits = omega (arith, one_row frames channels fits.pins, fits.most)
 row_small kind.OutputTerminal channels frames fits = omega (arith, one_row frames channels fits.pins, fits.most)
 row_small _ channels frames fits = let no = fits.signal in absurd (cc)
-
--- its gains are at most 256
-pub gains_small : (k : EntityKind) (u : UnitKind) (channels : ℕ) (frames : List (List ℤ)) → unit_of k ≡ Some u → FitsFrames k channels frames
-    → gain_count u channels (length (in_a_row frames)) ≤ 256
-gains_small kind.Mixer unit.Mixer channels frames e fits = rw (length-in_a_row frames) fits.pins.1
-gains_small kind.Selector unit.Selector channels frames e fits = omega arith
-gains_small kind.Feature unit.Feature channels frames e fits = omega (arith, fits.most)
-gains_small kind.Effect unit.Effect channels frames e fits = omega arith
-gains_small _ _ channels frames e fits = absurd (cc)
-
--- a selector's pins are at most 256
-pub pins_small : (k : EntityKind) (u : UnitKind) (channels : ℕ) (frames : List (List ℤ)) → 1 ≤ channels → unit_of k ≡ Some u → FitsFrames k channels frames
-    → u ≡ unit.Selector → length frames ≤ 256
-pins_small kind.Selector unit.Selector channels frames some e fits chosen =
-    omega (arith, few_pins channels (map length frames) some fits.pins.2, fits.pins.0, length-map frames (length {A = ℤ}))
-pins_small kind.Mixer _ channels frames some e fits chosen = absurd (cc)
-pins_small _ _ channels frames some e fits chosen = absurd (cc)
 
 -- the samples of a frame, one by one
 read_frame : (frame : List ℤ) (channels : ℕ) → length frame ≡ channels → map (λ channel. input frame channel) (range_with_len 0 channels) ≡ frame
@@ -242,29 +225,24 @@ pub job_by : (controls : Controls) (id : ℕ) (u : UnitKind) (channels count pin
 job_by controls id u channels count pins inputs row job p r is =
     subst (λ (n : ℕ). IsJob controls id u channels pins n job) r (subst (λ (n : ℕ). IsJob controls id u channels n inputs job) p is)
 
--- no channels, no samples
-pub no_frame : (controls : Controls) (id : ℕ) (k : EntityKind) (channels : ℕ) (frames : List (List ℤ)) → channels ≡ 0 → [] ≡ frame_of controls id k channels frames
-unfolding frame_of
-no_frame controls id k channels frames none = ap (λ (n : ℕ). map (sample_of controls id k channels frames) (range_with_len 0 n)) (sym none)
-
 -- the unit that renders an entity can take its job over these pins
-pub fits_unit : (controls : Controls) (e : Entity) (u : UnitKind) (frames : List (List ℤ)) (pins : List ℤ) (job : Job) → 1 ≤ e.cluster.channels
+pub fits_unit : (controls : Controls) (e : Entity) (u : UnitKind) (frames : List (List ℤ)) (pins : List ℤ) (job : Job)
     → Some u ≡ unit_of e.kind → length frames ≡ length e.sources → pins ≡ in_a_row frames → HasJob controls e (length (in_a_row frames)) job
     → FitsFrames e.kind e.cluster.channels frames → FitsKind u job pins
-fits_unit controls e u frames pins job some is count row has fits =
+fits_unit controls e u frames pins job is count row has fits =
     subst (λ (xs : List ℤ). FitsKind u job xs) (sym row)
-    (fits_kind controls e.id e.kind u e.cluster.channels frames job some (sym is)
-    (job_by controls e.id u e.cluster.channels (length e.sources) (length frames) (length (in_a_row frames)) (length (in_a_row frames)) job (sym count) refl (has u (sym is) some))
+    (fits_kind controls e.id e.kind u e.cluster.channels frames job (sym is)
+    (job_by controls e.id u e.cluster.channels (length e.sources) (length frames) (length (in_a_row frames)) (length (in_a_row frames)) job (sym count) refl (has u (sym is)))
     fits)
 
 -- what it makes of them is the entity's frame
-pub rendered_unit : (controls : Controls) (e : Entity) (u : UnitKind) (frames : List (List ℤ)) (pins : List ℤ) (job : Job) → 1 ≤ e.cluster.channels
+pub rendered_unit : (controls : Controls) (e : Entity) (u : UnitKind) (frames : List (List ℤ)) (pins : List ℤ) (job : Job)
     → Some u ≡ unit_of e.kind → length frames ≡ length e.sources → pins ≡ in_a_row frames → HasJob controls e (length (in_a_row frames)) job
     → FitsFrames e.kind e.cluster.channels frames → job_samples u job pins ≡ frame_of controls e.id e.kind e.cluster.channels frames
-rendered_unit controls e u frames pins job some is count row has fits =
+rendered_unit controls e u frames pins job is count row has fits =
     ap (job_samples u job) row
     ∙ rendered_is controls e.id e.kind u e.cluster.channels frames job (sym is)
-    (job_by controls e.id u e.cluster.channels (length e.sources) (length frames) (length (in_a_row frames)) (length (in_a_row frames)) job (sym count) refl (has u (sym is) some))
+    (job_by controls e.id u e.cluster.channels (length e.sources) (length frames) (length (in_a_row frames)) (length (in_a_row frames)) job (sym count) refl (has u (sym is)))
     fits
 
 -- a wire that gets these samples, by other names

@@ -87,6 +87,10 @@ takes kind.InputTerminal c i = absurd (cc)
 takes _ c i = refl
 
 -- its channels and its pins are as the graph's soundness says
+some_channels : (entities : List Entity) (id : ℕ) → IsSignalGraph entities → is_clock (entity entities id).kind ≡ false → 1 ≤ (entity entities id).cluster.channels
+unfolding entity
+some_channels entities id sound signal = sound.some (index_of entities id) (signal_below entities id signal) signal
+
 most_channels : (entities : List Entity) (id : ℕ) → IsSignalGraph entities → is_clock (entity entities id).kind ≡ false → (entity entities id).cluster.channels ≤ 32
 unfolding entity
 most_channels entities id sound signal = sound.most (index_of entities id) (signal_below entities id signal) signal
@@ -117,6 +121,7 @@ fits_frames entities frames id sound fitting signal unit =
     let e = entity entities id in
     record {
       signal = takes e.kind signal unit;
+      some = some_channels entities id sound signal;
       most = most_channels entities id sound signal;
       pins = subst (FitsPins e.kind e.cluster.channels) (sym (held_pins entities frames id sound fitting signal)) (fit_pins entities id sound signal);
     }

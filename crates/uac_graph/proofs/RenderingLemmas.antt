@@ -1,14 +1,12 @@
 -- Frames in a row.
-use Rattle.std.proofs.Common.{◌≡◌, ◌∙◌, sym, ap, refl, arith, ℕ, ◌+◌, ◌<◌, ◌≤◌, ℤ, List, [], ◌∷◌, ◌++◌, length, get_or, map, take, drop, append_assoc, sum, Option, Some, None, Bool, eqb, if◌then◌else◌, inl, inr, length-append}
+use Rattle.std.proofs.Common.{◌≡◌, ◌∙◌, sym, ap, refl, arith, ℕ, ◌+◌, ◌<◌, ◌≤◌, ℤ, List, [], ◌∷◌, ◌++◌, length, get_or, map, take, drop, append_assoc, sum, Option, Some, None, length-append}
 use Rattle.std.specs.List.{sum_by}
 use Rattle.std.proofs.lemmas.List.{map_more, map-append}
 use Rattle.std.proofs.lemmas.List.{take-append-drop, append-nil}
 use Rattle.std.proofs.lemmas.List.Sums.{sum_by-cons, sum-map}
 use Rattle.std.specs.Option.{option_map}
-use Rattle.std.proofs.lemmas.Bool.{cases_eq, eq-eqb, ne_eqb}
 use Rattle.std.proofs.lemmas.Option.{same_Some}
 use Rattle.uac_units.specs.Rendering.{in_a_row}
-use Rattle.uac_graph.specs.Wiring.{Frames, frame_on}
 
 pub in_a_row-append : (frames others : List (List ℤ)) → in_a_row (frames ++ others) ≡ in_a_row frames ++ in_a_row others
 in_a_row-append [] others = refl
@@ -60,12 +58,3 @@ pub no_samples : (o : Option (List ℤ)) (n : ℕ) → option_map length o ≡ S
 no_samples None n e none = absurd (cc)
 no_samples (Some []) n e none = refl
 no_samples (Some (z ∷ zs)) n e none = absurd (omega (arith, same_Some (length (z ∷ zs)) n e))
-
--- a wire that gets what it has
-pub same_wire : (frames : Frames) (own id : ℕ) (frame : List ℤ) → frame_on frames own ≡ Some frame
-    → frame_on frames id ≡ (if eqb own id then Some frame else frame_on frames id)
-same_wire frames own id frame e =
-    elim (cases_eq own id) [
-      | inl same ↦ sym (ap (λ (b : Bool). if b then Some frame else frame_on frames id) (eq-eqb own id same) ∙ sym e ∙ ap (frame_on frames) same)
-      | inr other ↦ sym (ap (λ (b : Bool). if b then Some frame else frame_on frames id) (ne_eqb own id other))
-    ]

@@ -1,7 +1,6 @@
 -- What is done at an index of an order gives its entity's wire what the entity makes of its sources.
-use Rattle.std.proofs.Common.{◌≡◌, ◌∙◌, sym, ap, subst, refl, arith, ℕ, ◌+◌, ◌<◌, ◌≤◌, Bool, true, false, eqb, if◌then◌else◌, ℤ, List, [], ◌∷◌, Option, Some, None, length, get_or, map, sum, inl, inr}
+use Rattle.std.proofs.Common.{◌≡◌, ◌∙◌, sym, ap, subst, refl, arith, ℕ, ◌+◌, ◌<◌, ◌≤◌, true, false, eqb, if◌then◌else◌, ℤ, List, [], ◌∷◌, Option, Some, None, length, get_or, map, sum}
 use Rattle.std.specs.Option.{option_map}
-use Rattle.std.proofs.lemmas.Bool.{both_ways, cases_lt, eq-eqb, ne_eqb}
 use Rattle.std.proofs.lemmas.List.{length-map}
 use Rattle.uac_entities.specs.declared.entity.Entity.{Entity}
 use Rattle.uac_entities.specs.declared.entity.EntityKind.{EntityKind}
@@ -40,22 +39,14 @@ work_by_many id unit [] many = refl
 work_by_many id unit (source ∷ []) many = absurd (many refl)
 work_by_many id unit (source ∷ other ∷ sources) many = refl
 
--- what is done for an entity, where it has channels or hasn't
-works_counted : (e : Entity) (none : Bool) → eqb e.cluster.channels 0 ≡ none → work_of e ≡ (if none then Ask else work_by e.id (unit_of e.kind) e.sources)
+pub works_many : (e : Entity) → (length e.sources ≡ 1 → ⊥) → work_of e ≡ Ask
 unfolding work_of
-works_counted e none counted = ap (λ (b : Bool). if b then Ask else work_by e.id (unit_of e.kind) e.sources) counted
+works_many e many = work_by_many e.id (unit_of e.kind) e.sources many
 
-pub works_none : (e : Entity) → e.cluster.channels ≡ 0 → work_of e ≡ Ask
-works_none e none = works_counted e true (eq-eqb e.cluster.channels 0 none)
-
-pub works_many : (e : Entity) → (e.cluster.channels ≡ 0 → ⊥) → (length e.sources ≡ 1 → ⊥) → work_of e ≡ Ask
-works_many e some many = works_counted e false (ne_eqb e.cluster.channels 0 some) ∙ work_by_many e.id (unit_of e.kind) e.sources many
-
-pub works_one : (e : Entity) (sources : List ℕ) → (e.cluster.channels ≡ 0 → ⊥) → sources ≡ e.sources → length sources ≡ 1
+pub works_one : (e : Entity) (sources : List ℕ) → sources ≡ e.sources → length sources ≡ 1
     → work_of e ≡ work_by e.id (unit_of e.kind) (get_or sources 0 0 ∷ [])
-works_one e sources some same one =
-    works_counted e false (ne_eqb e.cluster.channels 0 some)
-    ∙ ap (work_by e.id (unit_of e.kind)) (sym same ∙ only_item sources one)
+unfolding work_of
+works_one e sources same one = ap (work_by e.id (unit_of e.kind)) (sym same ∙ only_item sources one)
 
 -- an entity that passes on: its one source, and its own id
 pub record Passes (e : Entity) (source own : ℕ) : Type 0 where
@@ -67,22 +58,20 @@ pub record Passes (e : Entity) (source own : ℕ) : Type 0 where
 pub passes_is : (e : Entity) (source own : ℕ) → is_input e.kind ≡ false → work_of e ≡ Pass source own → Passes e source own
 unfolding work_of
 passes_is e source own other is =
-    let parts = by (eqb e.cluster.channels 0) (unit_of e.kind) e.sources is in
+    let parts = by (unit_of e.kind) e.sources is in
     record { signal = other; unit = parts.0; one = parts.1; named = parts.2 }
   where
-    by : (none : Bool) (unit : Option UnitKind) (sources : List ℕ)
-        → (if none then Ask else work_by e.id unit sources) ≡ Pass source own
+    by : (unit : Option UnitKind) (sources : List ℕ)
+        → work_by e.id unit sources ≡ Pass source own
         → (unit ≡ None) × (sources ≡ source ∷ []) × (own ≡ e.id)
-    by true unit sources is = absurd (cc)
-    by false unit [] is = absurd (cc)
-    by false (Some u) (s ∷ []) is = absurd (cc)
-    by false None (s ∷ []) is = (refl, (let same : s ≡ source = cc in ap (λ (n : ℕ). n ∷ []) same), (let same : own ≡ e.id = cc in same))
-    by false unit (s ∷ t ∷ sources) is = absurd (cc)
+    by unit [] is = absurd (cc)
+    by (Some u) (s ∷ []) is = absurd (cc)
+    by None (s ∷ []) is = (refl, (let same : s ≡ source = cc in ap (λ (n : ℕ). n ∷ []) same), (let same : own ≡ e.id = cc in same))
+    by unit (s ∷ t ∷ sources) is = absurd (cc)
 
 -- a unit that is rendered over its one source
 pub record Renders (e : Entity) (u : UnitKind) (source own : ℕ) : Type 0 where
   pub signal : is_input e.kind ≡ false
-  pub some : 1 ≤ e.cluster.channels
   pub unit : unit_of e.kind ≡ Some u
   pub one : e.sources ≡ source ∷ []
   pub named : own ≡ e.id
@@ -90,25 +79,20 @@ pub record Renders (e : Entity) (u : UnitKind) (source own : ℕ) : Type 0 where
 pub renders_is : (e : Entity) (u : UnitKind) (source own : ℕ) → is_input e.kind ≡ false → work_of e ≡ Render u source own → Renders e u source own
 unfolding work_of
 renders_is e u source own other is =
-    let parts = by (eqb e.cluster.channels 0) (unit_of e.kind) e.sources is in
-    record { signal = other; some = some_of e.cluster.channels parts.0; unit = parts.1; one = parts.2; named = parts.3 }
+    let parts = by (unit_of e.kind) e.sources is in
+    record { signal = other; unit = parts.0; one = parts.1; named = parts.2 }
   where
-    some_of : (n : ℕ) → eqb n 0 ≡ false → 1 ≤ n
-    some_of n e = elim (cases_lt 0 n) [ inl below ↦ omega (arith, below) | inr past ↦ absurd (both_ways (eqb n 0) e (eq-eqb n 0 (omega (arith, past)))) ]
-
-    by : (none : Bool) (unit : Option UnitKind) (sources : List ℕ)
-        → (if none then Ask else work_by e.id unit sources) ≡ Render u source own
-        → (none ≡ false) × (unit ≡ Some u) × (sources ≡ source ∷ []) × (own ≡ e.id)
-    by true unit sources is = absurd (cc)
-    by false unit [] is = absurd (cc)
-    by false None (s ∷ []) is = absurd (cc)
-    by false (Some v) (s ∷ []) is = (
-      refl,
+    by : (unit : Option UnitKind) (sources : List ℕ)
+        → work_by e.id unit sources ≡ Render u source own
+        → (unit ≡ Some u) × (sources ≡ source ∷ []) × (own ≡ e.id)
+    by unit [] is = absurd (cc)
+    by None (s ∷ []) is = absurd (cc)
+    by (Some v) (s ∷ []) is = (
       (let same : v ≡ u = cc in ap Some same),
       (let same : s ≡ source = cc in ap (λ (m : ℕ). m ∷ []) same),
       (let same : own ≡ e.id = cc in same),
     )
-    by false unit (s ∷ t ∷ sources) is = absurd (cc)
+    by unit (s ∷ t ∷ sources) is = absurd (cc)
 
 -- ---- what counts
 
@@ -199,7 +183,7 @@ module _ (entities : List Entity) (frames : Frames) (index : ℕ) (sound : IsSig
       → HasJob controls (at entities index) (sum (pins_of entities (at entities index))) job → FitsKind u job (samples_on frames source)
   renders_fits controls u source own job renders has =
       let e = at entities index in
-      fits_unit controls e u (map (samples_on frames) e.sources) (samples_on frames source) job renders.some (sym renders.unit)
+      fits_unit controls e u (map (samples_on frames) e.sources) (samples_on frames source) job (sym renders.unit)
       (length-map e.sources (samples_on frames)) (row_of_one frames e.sources source renders.one)
       (job_at entities controls frames index e job sound fitting inside signal refl has)
       (fits_at entities frames index e sound fitting inside signal refl renders.signal)
@@ -211,7 +195,7 @@ module _ (entities : List Entity) (frames : Frames) (index : ℕ) (sound : IsSig
       let e = at entities index in
       ap (λ (n : ℕ). option_map length (frame_on frames n)) renders.named
       ∙ wire_at entities frames index e sound fitting inside signal refl
-      ∙ ap Some (sym (has u renders.unit renders.some).outputs)
+      ∙ ap Some (sym (has u renders.unit).outputs)
 
   pub renders_set : (controls : Controls) (u : UnitKind) (source own : ℕ) (job : Job) (new : Frames) → Renders (at entities index) u source own
       → HasJob controls (at entities index) (sum (pins_of entities (at entities index))) job
@@ -224,7 +208,7 @@ module _ (entities : List Entity) (frames : Frames) (index : ℕ) (sound : IsSig
   renders_set controls u source own job new renders has set k =
       let e = at entities index in
       wire_named frames new own e.id (job_samples u job (samples_on frames source)) _ k renders.named
-      (rendered_unit controls e u (map (samples_on frames) e.sources) (samples_on frames source) job renders.some (sym renders.unit)
+      (rendered_unit controls e u (map (samples_on frames) e.sources) (samples_on frames source) job (sym renders.unit)
       (length-map e.sources (samples_on frames)) (row_of_one frames e.sources source renders.one)
       (job_at entities controls frames index e job sound fitting inside signal refl has)
       (fits_at entities frames index e sound fitting inside signal refl renders.signal))

@@ -15,11 +15,11 @@ use Rattle.uac_graph.specs.Meaning.{entity}
 unfoldable pub wire_channels : List Entity → ℕ → Option ℕ
 wire_channels entities id = if is_clock (entity entities id).kind then None else Some (entity entities id).cluster.channels
 
--- the pins of an entity of a kind fit its channels: a mixer has at most 256 inputs and 256 nodes, the pins of a selector have
--- its channels and at most 256 together (one without pins has no channels), and the one source of any other has its channels
+-- the pins of an entity of a kind fit its channels: a mixer has at most 256 inputs and 256 nodes, a selector has a pin, and its
+-- pins have its channels and at most 256 together, and the one source of any other has its channels
 abbrev pub FitsPins : EntityKind → ℕ → List ℕ → Type 0
 FitsPins kind.Mixer channels pins = (sum pins ≤ 256) × (sum pins * channels ≤ 256)
-FitsPins kind.Selector channels pins = (sum pins ≤ 256) × (0 < channels → 0 < length pins) × All (λ p. p ≡ channels) pins
+FitsPins kind.Selector channels pins = (sum pins ≤ 256) × (0 < length pins) × All (λ p. p ≡ channels) pins
 FitsPins kind.Feature channels pins = pins ≡ channels ∷ []
 FitsPins kind.Effect channels pins = pins ≡ channels ∷ []
 FitsPins kind.OutputTerminal channels pins = pins ≡ channels ∷ []
@@ -29,7 +29,7 @@ FitsPins kind.ClockSelector channels pins = Unit {0}
 FitsPins kind.ClockMultiplier channels pins = Unit {0}
 
 -- a signal graph as the rules leave it: an id names one entity, each source has a wire and is no output terminal, no walk goes
--- on for ever, a wire has at most 32 channels, and pins fit
+-- on for ever, a wire has 1 to 32 channels, and pins fit
 pub record IsSignalGraph (entities : List Entity) : Type 0 where
   pub distinct : (index : ℕ) → index < length entities → index_of entities (at entities index).id ≡ index
   pub heard : (index : ℕ) → index < length entities
@@ -37,6 +37,7 @@ pub record IsSignalGraph (entities : List Entity) : Type 0 where
   pub no_ends : (index : ℕ) → index < length entities
       → All (λ s. is_output (entity entities s).kind ≡ false) (signal_sources (at entities index))
   pub acyclic : (index : ℕ) → index < length entities → has_walk (signal_links entities) (length entities) index ≡ false
+  pub some : (index : ℕ) → index < length entities → is_clock (at entities index).kind ≡ false → 1 ≤ (at entities index).cluster.channels
   pub most : (index : ℕ) → index < length entities → is_clock (at entities index).kind ≡ false → (at entities index).cluster.channels ≤ 32
   pub fits : (index : ℕ) → index < length entities
       → FitsPins (at entities index).kind (at entities index).cluster.channels (pins_of entities (at entities index))

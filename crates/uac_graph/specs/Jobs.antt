@@ -69,14 +69,14 @@ pub record IsJob (controls : Controls) (id : ℕ) (kind : UnitKind) (channels co
 -- what an entity takes from its sources fits it: the frames of its sources, pin by pin
 pub record FitsFrames (kind : EntityKind) (channels : ℕ) (frames : List (List ℤ)) : Type 0 where
   pub signal : takes_signal kind ≡ true
+  pub some : 1 ≤ channels
   pub most : channels ≤ 32
   pub pins : FitsPins kind channels (map length frames)
 
--- the job of an entity over so many input channels, where the entity is a unit that has channels
+-- the job of an entity over so many input channels, where the entity is a unit
 abbrev pub HasJob : Controls → Entity → ℕ → Job → Type 0
 HasJob controls e inputs job =
-    (u : UnitKind) → unit_of e.kind ≡ Some u → 1 ≤ e.cluster.channels
-    → IsJob controls e.id u e.cluster.channels (length e.sources) inputs job
+    (u : UnitKind) → unit_of e.kind ≡ Some u → IsJob controls e.id u e.cluster.channels (length e.sources) inputs job
 
 -- the jobs of the first entities, by their indices: so many
 pub record AreFirstJobs (entities : List Entity) (controls : Controls) (count : ℕ) (jobs : List Job) : Type 0 where
@@ -92,7 +92,8 @@ AreJobs entities controls jobs = AreFirstJobs entities controls (length entities
 abbrev pub AreSameBut : ℕ → Controls → Controls → Type 0
 AreSameBut id before after = (other selector channel : ℕ) → (other ≡ id → ⊥) → before other selector channel ≡ after other selector channel
 
--- an entity's job is small: its pins fit its channels, of which it has at most 32 where it carries a signal
+-- an entity's job is small: its pins fit its channels, of which it has 1 to 32 where it carries a signal
 pub record IsAskable (entities : List Entity) (e : Entity) : Type 0 where
+  pub some : is_clock e.kind ≡ false → 1 ≤ e.cluster.channels
   pub most : is_clock e.kind ≡ false → e.cluster.channels ≤ 32
   pub fits : FitsPins e.kind e.cluster.channels (pins_of entities e)

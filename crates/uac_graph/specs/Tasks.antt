@@ -1,5 +1,5 @@
 -- What is done at the indices of an order at each tick, as it follows from the graph.
-use Rattle.std.specs.Prelude.{ℕ, ◌==◌, Bool, not, if◌then◌else◌, List, [], ◌∷◌, Option, Some, None, map, filter}
+use Rattle.std.specs.Prelude.{ℕ, Bool, not, List, [], ◌∷◌, Option, Some, None, map, filter}
 use Rattle.uac_entities.specs.declared.entity.Entity.{Entity}
 use Rattle.uac_topology_rules.specs.Clusters.{is_input}
 use Rattle.uac_topology_rules.specs.Table.{at}
@@ -16,9 +16,9 @@ work_by id None (source ∷ []) = Pass source id
 work_by id unit [] = Ask
 work_by id unit (source ∷ other ∷ sources) = Ask
 
--- an entity without channels is asked at the tick, too
+-- what is done for an entity
 unfoldable pub work_of : Entity → Work
-work_of e = if e.cluster.channels == 0 then Ask else work_by e.id (unit_of e.kind) e.sources
+work_of e = work_by e.id (unit_of e.kind) e.sources
 
 -- what is done for the entity at an index
 abbrev pub task_of : List Entity → ℕ → Task

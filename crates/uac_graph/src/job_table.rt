@@ -13,8 +13,8 @@ use uac_store::Store;
 use uac_topology_rules::EntityTable;
 use uac_units::Job;
 
-/// The job of each entity of a graph, by its index: of a unit that has channels what it is asked under some controls, and of any other
-/// one for which nobody asks.
+/// The job of each entity of a graph, by its index: of a unit what it is asked under some controls, and of any other one for which
+/// nobody asks.
 #[derive(Drop)]
 pub struct Jobs {
     list: Vec<Job>,

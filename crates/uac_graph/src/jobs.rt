@@ -9,7 +9,6 @@ ghost use Rattle.uac_units.specs.declared.jobs.UnitKind.TheVariants.{Selector};
 ghost use Rattle.uac_graph.specs.GraphControls.{controls_in};
 ghost use Rattle.uac_graph.specs.Jobs as spec;
 ghost use Rattle.uac_graph.specs.Jobs.{HasJob, IsAskable, IsJob};
-ghost use Rattle.uac_graph.specs.Needs as needs;
 ghost use Rattle.uac_graph.specs.Wiring.{samples_on};
 
 use crate::controls::{chosen_pin, feature_gain, node_gain};
@@ -56,20 +55,6 @@ pub(crate) fn unit_for(rack: &Rack, kind: EntityKind) -> Option<&dyn Unit>
     }
 }
 
-/// Whether an entity of this kind is a unit.
-pub(crate) fn is_unit(kind: EntityKind) -> bool
-    ensures { result ≡ needs.is_unit kind }
-{
-    match kind {
-        EntityKind::Mixer | EntityKind::Selector | EntityKind::Feature | EntityKind::Effect => true,
-        EntityKind::InputTerminal
-        | EntityKind::OutputTerminal
-        | EntityKind::ClockSource
-        | EntityKind::ClockSelector
-        | EntityKind::ClockMultiplier => false,
-    }
-}
-
 /// No job yet.
 pub(crate) fn no_job() -> Job {
     Job {
@@ -79,14 +64,11 @@ pub(crate) fn no_job() -> Job {
     }
 }
 
-/// Makes it the job of an entity of the table under the controls held, where the entity is a unit that has channels.
+/// Makes it the job of an entity of the table under the controls held, where the entity is a unit.
 pub(crate) fn ask(job: &mut Job, table: &EntityTable, store: &Store, entity: &Entity)
     requires { IsAskable table.now entity.now }
     ensures { HasJob (controls_in store.now) entity.now (sum (pins_of table.now entity.now)) job.new }
 {
-    if entity.cluster.channels == 0 {
-        return;
-    }
     match unit_of(entity.kind) {
         Some(kind) => set_job(job, store, entity, kind, inputs_of(table, entity)),
         None => {}

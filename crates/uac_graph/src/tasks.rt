@@ -17,7 +17,7 @@ pub(crate) enum Work {
     Pass { from: u8, to: u8 },
     /// A unit of one source is rendered.
     Render { kind: UnitKind, source: u8, id: u8 },
-    /// What there is to do is asked of the entity at the tick: it has several sources, or no channels.
+    /// What there is to do is asked of the entity at the tick: it has several sources.
     Ask,
 }
 
@@ -57,9 +57,6 @@ fn work_of(entity: &Entity) -> Work
     ensures { result ≡ spec.work_of entity.now }
 {
     let sources = entity.sources.as_slice();
-    if entity.cluster.channels == 0 {
-        return Work::Ask;
-    }
     if sources.len() != 1 {
         return Work::Ask;
     }

@@ -12,12 +12,12 @@ ghost use Rattle.uac_pcm.specs.Tones.{tone_frame};
 ghost use Rattle.uac_graph.specs.Wiring.{AreSilent, AreWiresOf, frame_on, samples_on};
 
 use crate::frame_table::FrameTable;
-use crate::jobs::{gather, is_unit, unit_for};
+use crate::jobs::{gather, unit_for};
 use arrayvec::ArrayVec;
 use std::alloc::Global;
 use std::marker::Model;
 use uac_descriptor::NoMemory;
-use uac_entities::{Entity, EntityKind};
+use uac_entities::Entity;
 use uac_pcm::{Frame, Tone};
 use uac_topology::Function;
 use uac_topology::laws::functions_are_sound;
@@ -135,7 +135,7 @@ impl Wires {
     }
 
     /// Renders an entity: its wire gets the frame that it makes of those on the wires of its sources, under the controls of which this
-    /// is its job. A unit is rendered once. Only a selector without pins, and what it feeds, has no channels.
+    /// is its job. A unit is rendered once.
     pub(crate) fn render(&mut self, entity: &Entity, job: &Job, rack: &Rack, steps: &mut Steps)
         requires rack { IsFitted (λ v x. (⟦<dyn Unit as Unit>⟧ v).kind_of x) rack.now }
         requires fits { FitsFrames entity.now.kind entity.now.cluster.channels (map (samples_on self.old) entity.now.sources) }
@@ -151,24 +151,10 @@ impl Wires {
             else frame_on self.old id) }
         ensures counted { steps.new ≡ steps.old + unit_count entity.now.kind }
     {
-        if entity.cluster.channels == 0 {
-            count_empty(entity.kind, steps);
-            return;
-        }
         gather(&mut self.pins, &self.frames, entity.sources.as_slice());
         match unit_for(rack, entity.kind) {
             Some(unit) => self.frames.render(entity.id, unit, job, &self.pins, steps),
             None => self.frames.pass_on(entity.id, &self.pins),
         }
-    }
-}
-
-// Counts an entity whose frame is empty: nobody can be asked for it, and a unit counts as rendered.
-fn count_empty(kind: EntityKind, steps: &mut Steps)
-    requires { steps.old + unit_count kind < 2 ^ 64 }
-    ensures { steps.new ≡ steps.old + unit_count kind }
-{
-    if is_unit(kind) {
-        steps.tick();
     }
 }

@@ -1,17 +1,14 @@
-use Rattle.std.proofs.Common.{sym, subst, arith, ◌≤◌, ℕ}
+use Rattle.std.proofs.Common.{sym, subst, ◌≤◌, ℕ}
 use Rattle.uac_graph.specs.Jobs.{gain_count}
 use Rattle.uac_graph.proofs.JobsLemmas.{gains_few, inputs_few, is_asked, sources_few}
 use Rattle.uac_graph.proofs.jobs.ask.Goals as goal
-
-pub returns-then-entity-eq0 : goal.returns-then-entity-eq0
-returns-then-entity-eq0 c u is some = absurd (omega (arith, c.if-entity-eq0.true))
 
 pub inputs_of-requires : goal.inputs_of-requires
 inputs_of-requires c = inputs_few c.args.table.now c.args.entity.now c.in-Some.kind (sym c.in-Some.ensures) c.requires
 
 pub set_job-requires-clause-pins : goal.set_job-requires-clause-pins
 set_job-requires-clause-pins c chosen =
-    sources_few c.args.table.now c.args.entity.now c.in-Some.kind (sym c.in-Some.ensures) c.requires chosen (omega arith)
+    sources_few c.args.table.now c.args.entity.now c.in-Some.kind (sym c.in-Some.ensures) c.requires chosen
 
 pub set_job-requires-clause-gains : goal.set_job-requires-clause-gains
 set_job-requires-clause-gains c =
@@ -23,4 +20,4 @@ returns-in-Some c =
     is_asked _ c.args.entity.now c.in-Some.kind c.inputs_of.result _ c.set_job.new.job (sym c.in-Some.ensures) c.inputs_of.ensures c.set_job.ensures.job
 
 pub returns-in-None : goal.returns-in-None
-returns-in-None c u is some = absurd (let none = c.in-None.ensures in cc)
+returns-in-None c u is = absurd (let none = c.in-None.ensures in cc)

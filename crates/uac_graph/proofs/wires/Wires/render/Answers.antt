@@ -1,20 +1,11 @@
-use Rattle.std.proofs.Common.{◌≡◌, ◌∙◌, ap, sym, subst, ◌≤◌, ℕ, ℤ, List, length, map, arith, eqb, if◌then◌else◌, Some}
+use Rattle.std.proofs.Common.{◌≡◌, ◌∙◌, ap, sym, subst, ◌≤◌, ℕ, ℤ, List, length, map, eqb, if◌then◌else◌, Some}
 use Rattle.std.specs.Option.{option_map}
 use Rattle.std.proofs.lemmas.List.{length-map}
 use Rattle.uac_units.specs.Rendering.{in_a_row}
 use Rattle.uac_graph.specs.Wiring.{Frames, frame_on, samples_on}
-use Rattle.uac_graph.proofs.JobsMeaningLemmas.{fits_unit, no_frame, passed_on, rendered_unit, row_small, wire_by}
+use Rattle.uac_graph.proofs.JobsMeaningLemmas.{fits_unit, passed_on, rendered_unit, row_small, wire_by}
 use Rattle.uac_graph.proofs.MeaningReachLemmas.{length-frame_of}
-use Rattle.uac_graph.proofs.RenderingLemmas.{no_samples, same_wire}
 use Rattle.uac_graph.proofs.wires.Wires.render.Goals as goal
-
-pub returns-then-entity-eq0-clause-frames : goal.returns-then-entity-eq0-clause-frames
-returns-then-entity-eq0-clause-frames g c controls has id =
-    let e = c.args.entity.now in
-    let now = c.args.self.now in
-    same_wire now e.id id _
-    (no_samples (frame_on now e.id) e.cluster.channels c.requires.there c.if-entity-eq0.true
-    ∙ ap Some (no_frame controls e.id e.kind e.cluster.channels (map (samples_on now) e.sources) c.if-entity-eq0.true))
 
 pub gather-requires : goal.gather-requires
 gather-requires g c =
@@ -30,14 +21,14 @@ render-requires-clause-fits g c =
     let frames = map (samples_on c.args.self.now) e.sources in
     let row : c.gather.new.pins.items ≡ in_a_row frames =
     c.gather.ensures ∙ ap (λ s. in_a_row (map (samples_on c.self.inside.frames) s)) c.as_slice.ensures ∙ ap (λ (w : Frames). in_a_row (map (samples_on w) e.sources)) c.self.view_is in
-    fits_unit c.requires.job.0 e _ frames c.gather.new.pins.items c.args.job.now (omega arith) c.in-Some.ensures (length-map e.sources (samples_on c.args.self.now)) row
+    fits_unit c.requires.job.0 e _ frames c.gather.new.pins.items c.args.job.now c.in-Some.ensures (length-map e.sources (samples_on c.args.self.now)) row
     c.requires.job.1 c.requires.fits
 
 pub render-requires-clause-there : goal.render-requires-clause-there
 render-requires-clause-there g c =
     let e = c.args.entity.now in
     ap (λ (w : Frames). option_map length (frame_on w e.id)) c.self.view_is ∙ c.requires.there
-    ∙ ap Some (sym (c.requires.job.1 _ (sym c.in-Some.ensures) (omega arith)).outputs)
+    ∙ ap Some (sym (c.requires.job.1 _ (sym c.in-Some.ensures)).outputs)
 
 pub pass_on-requires-clause-few : goal.pass_on-requires-clause-few
 pass_on-requires-clause-few g c =
@@ -67,7 +58,7 @@ returns-in-Some-clause-frames g c controls has id =
     let row : c.gather.new.pins.items ≡ in_a_row frames =
     c.gather.ensures ∙ ap (λ s. in_a_row (map (samples_on c.self.inside.frames) s)) c.as_slice.ensures ∙ ap (λ (w : Frames). in_a_row (map (samples_on w) e.sources)) c.self.view_is in
     wire_by c.self.inside.frames c.args.self.now e.id id _ _ _ c.self.view_is
-    (rendered_unit controls e _ frames c.gather.new.pins.items c.args.job.now (omega arith) c.in-Some.ensures (length-map e.sources (samples_on c.args.self.now)) row has
+    (rendered_unit controls e _ frames c.gather.new.pins.items c.args.job.now c.in-Some.ensures (length-map e.sources (samples_on c.args.self.now)) row has
     c.requires.fits)
     (c.render.ensures.frames id)
 
