@@ -6,6 +6,7 @@ pub mod FunctionInterfaceLemmas
 pub mod RequestsLemmas
 pub mod EndianLemmas
 pub mod RequestsValidLemmas
+pub mod RequestsMapLemmas
 pub mod RequestsWidthLemmas
 pub mod RequestsOwnerLemmas
 pub mod RequestsSentLemmas

@@ -2,7 +2,7 @@
 -- request is stalled, are this profile's; the first that is broken is told.
 use Rattle.std.specs.Prelude.{◌≡◌, ◌<◌, ℕ, ◌+◌, ◌-◌, ◌*◌, ◌/◌, ◌%◌, ◌^◌, ◌==◌, ◌&&◌, ◌||◌, not, nat_le, nat_lt, Bool, true, false}
 use Rattle.std.specs.Prelude.{if◌then◌else◌, ℤ, pos, negsuc, List, [], ◌∷◌, ◌++◌, map, flat_map, length, get_or, take, sum, Option, Some}
-use Rattle.std.specs.Prelude.{None, is_some, unwrap_or}
+use Rattle.std.specs.Prelude.{None, drop, is_some, unwrap_or}
 use Rattle.std.specs.List.{find, filter_map, list_any}
 use Rattle.std.specs.Option.{option_and_then, option_map, option_map_or}
 use Rattle.std.specs.Ordering.{int_eq}
@@ -41,9 +41,9 @@ setup_of bytes =
     record {
       request_type = get_or bytes 0 0;
       request = get_or bytes 1 0;
-      value = get_or bytes 2 0 + 256 * get_or bytes 3 0;
-      index = get_or bytes 4 0 + 256 * get_or bytes 5 0;
-      length = get_or bytes 6 0 + 256 * get_or bytes 7 0;
+      value = little_number 2 (drop 2 bytes);
+      index = little_number 2 (drop 4 bytes);
+      length = little_number 2 (drop 6 bytes);
     }
 
 -- the requests, by bmRequestType and bRequest (Audio Class 2.0, A.14; USB 2.0, 9.4)

@@ -1,9 +1,13 @@
 // What holds of requests.
-ghost use Rattle.std.specs.Prelude.{◌≡◌, ◌⊎◌, ◌<◌, ◌≤◌, ℕ, ℤ, Bool, List, Some, [], length, true};
+ghost use Rattle.std.specs.Prelude.{◌≡◌, ◌⊎◌, ◌<◌, ◌≤◌, ◌*◌, ◌&&◌, ℕ, ℤ, Bool, List, Some, [], drop, length, true};
+ghost use Rattle.std.specs.Prelude.{if◌then◌else◌};
+ghost use Rattle.std.specs.Int.{bit_at};
+ghost use Rattle.byteorder.specs.Endian.{little_number};
 ghost use Rattle.uac_alt.specs.AltSettings.{initial_settings, is_running};
 ghost use Rattle.uac_alt.specs.declared.settings.InterfaceSetting.{InterfaceSetting};
 ghost use Rattle.uac_entities.specs.declared.entity.Entity.{Entity};
-ghost use Rattle.uac_topology.specs.Function.{FunctionFields};
+ghost use Rattle.uac_entities.specs.declared.stream.StreamInterface.{StreamInterface};
+ghost use Rattle.uac_topology.specs.Function.{FunctionFields, interface_in};
 ghost use Rattle.uac_topology.specs.Topology.{IsSoundFunction};
 ghost use Rattle.uac_store.specs.StoreControls.{IsStoreOf};
 ghost use Rattle.uac_store.specs.Keyed.{value_of, with_value};
@@ -11,7 +15,7 @@ ghost use Rattle.uac_store.specs.Rates.{rate_of};
 ghost use Rattle.uac_store.specs.declared.keys.Key.{Key};
 ghost use Rattle.uac_request.specs.RequestElements.{get_of, is_present, set_of, is_signed_at, width_at};
 ghost use Rattle.uac_request.specs.Requests.{AreSettingsOf, AreValidSettings, RequestState, IsWithin, after_request, request_state};
-ghost use Rattle.uac_request.specs.Requests.{is_done, is_stalled};
+ghost use Rattle.uac_request.specs.Requests.{has_setting, is_done, is_stalled, is_valid, map_bytes, valid_bytes, valid_sum};
 ghost use Rattle.uac_request.specs.Requests.{reply_of, value_bytes, value_from, with_bytes, with_descriptor};
 ghost use Rattle.uac_request.specs.declared.setup.Setup.{Setup};
 
@@ -74,6 +78,20 @@ pub fn settings_stay_valid()
         → AreValidSettings function (after_request function held p sent) }
     ensures starts { (function : FunctionFields) (controls : List (Key × ℤ))
         → AreValidSettings function (request_state controls (initial_settings function)) }
+{}
+
+/// In the map of an interface's valid settings bit i is set exactly where the interface has setting i and it is valid, and
+/// so it is in the map's bytes, as far as they go (Audio Class 2.0, 5.2.6.1.2).
+#[tactic(auto, using(crate::proofs::RequestsMapLemmas::bit_by_bit, crate::proofs::RequestsMapLemmas::bytes_bit_by_bit))]
+pub fn settings_map_is_bit_by_bit()
+    ensures sum { (function : FunctionFields) (controls : List (Key × ℤ)) (interface : ℕ) (s : StreamInterface) (i : ℕ)
+        → IsSoundFunction function → interface_in function interface ≡ Some s
+        → bit_at (valid_sum function controls s s.settings) i
+        ≡ (if has_setting function interface i && is_valid function controls s i then 1 else 0) }
+    ensures bytes { (function : FunctionFields) (controls : List (Key × ℤ)) (interface : ℕ) (s : StreamInterface) (i : ℕ)
+        → IsSoundFunction function → interface_in function interface ≡ Some s → i < 8 * map_bytes s
+        → bit_at (little_number (map_bytes s) (drop 1 (valid_bytes function controls s))) i
+        ≡ (if has_setting function interface i && is_valid function controls s i then 1 else 0) }
 {}
 
 /// While some setting isn't 0, no request changes the rate of a clock.

@@ -1,8 +1,10 @@
 // The setup packet of a control transfer.
-ghost use Rattle.std.specs.Prelude.{◌≡◌, ◌+◌, ◌*◌};
+ghost use Rattle.std.specs.Prelude.{◌≡◌, ◌∷◌, []};
+ghost use Rattle.byteorder.specs.Endian.{little_number};
 ghost use Rattle.uac_request.specs.Requests as spec;
 ghost use Rattle.uac_request.specs.Requests.{high, low, setup_of};
 
+use byteorder::{ByteOrder, LittleEndian};
 use uac_store::Key;
 
 /// The setup packet of a control transfer (USB 2.0, 9.3).
@@ -22,24 +24,25 @@ pub struct Setup {
 
 impl Setup {
     /// The packet of eight bytes: numbers of two bytes have the low one first (USB 2.0, 9.3).
+    #[tactic(auto, using(crate::proofs::EndianLemmas::first_two))]
     pub fn read(bytes: [u8; 8]) -> Setup
         ensures { result ≡ setup_of bytes }
     {
         Setup {
             request_type: bytes[0],
             request: bytes[1],
-            value: two_byte_number(bytes[2], bytes[3]),
-            index: two_byte_number(bytes[4], bytes[5]),
-            length: two_byte_number(bytes[6], bytes[7]),
+            value: LittleEndian::read_u16(&bytes[2..4]),
+            index: LittleEndian::read_u16(&bytes[4..6]),
+            length: LittleEndian::read_u16(&bytes[6..8]),
         }
     }
 }
 
 /// The number of two bytes.
 pub fn two_byte_number(low: u8, high: u8) -> u16
-    ensures { result ≡ low + 256 * high }
+    ensures { result ≡ little_number 2 (low ∷ high ∷ []) }
 {
-    u16::from(low) + 256 * u16::from(high)
+    LittleEndian::read_u16(&[low, high])
 }
 
 /// The high byte of a number: a control's selector in wValue, an entity in wIndex (Audio Class 2.0, 5.2.2).
