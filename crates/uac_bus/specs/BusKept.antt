@@ -2,7 +2,8 @@
 use Rattle.std.specs.Prelude.{◌≡◌, ℕ, Bool, true, false, List, Option, None, Result, Ok, Err}
 use Rattle.std.specs.Io.KnownBytes.{Appends}
 use Rattle.uac_edges.specs.Writing.{AppendsFront}
-use Rattle.uac_script.specs.Phrase.{Phrase, append_line, bytes_line, go_line}
+use Rattle.uac_script.specs.Phrase.{Phrase, nothing_line, bytes_line, go_line, control_line, get_line, set_line, show_line, break_line}
+use Rattle.uac_script.specs.Phrase.{append_line, track_line, jack_line, deviate_line, microframes_line, detail_line, report_line}
 use Rattle.uac_transcript.specs.Printing.{text_of}
 use Rattle.uac_units.specs.Hearing.{Reading}
 use Rattle.uac_running.specs.RunningKept as play
@@ -31,10 +32,21 @@ pub record BusStands (bus : BusFields) (meters : List Reading) (w : BusWorld) : 
 
 -- a line for which memory may be wanted: one of the descriptor, and samples for a track
 abbrev pub takes_memory : Phrase → Bool
+takes_memory nothing_line = false
 takes_memory (bytes_line bytes) = true
 takes_memory go_line = true
+takes_memory (control_line setup sent) = false
+takes_memory (get_line name) = false
+takes_memory (set_line name value) = false
+takes_memory (show_line name) = false
+takes_memory (break_line after) = false
 takes_memory (append_line number samples) = true
-takes_memory _ = false
+takes_memory (track_line number tone) = false
+takes_memory (jack_line terminal tone) = false
+takes_memory (deviate_line domain ppm) = false
+takes_memory (microframes_line count marks) = false
+takes_memory (detail_line level) = false
+takes_memory report_line = false
 
 -- the descriptor's end hasn't come
 abbrev pub is_describing : BusWorld → Bool
@@ -43,8 +55,21 @@ is_describing (running r) = false
 
 -- a line of samples
 abbrev pub is_append : Phrase → Bool
+is_append nothing_line = false
+is_append (bytes_line bytes) = false
+is_append go_line = false
+is_append (control_line setup sent) = false
+is_append (get_line name) = false
+is_append (set_line name value) = false
+is_append (show_line name) = false
+is_append (break_line after) = false
 is_append (append_line number samples) = true
-is_append _ = false
+is_append (track_line number tone) = false
+is_append (jack_line terminal tone) = false
+is_append (deviate_line domain ppm) = false
+is_append (microframes_line count marks) = false
+is_append (detail_line level) = false
+is_append report_line = false
 
 -- before the descriptor's end memory may be wanted for its lines, and after it for samples alone
 abbrev pub may_want : Phrase → BusWorld → Bool
@@ -80,4 +105,7 @@ Answers phrase w bus meters written written' result = Does (step phrase w) (may_
 -- a fault that is answered again from now on
 abbrev pub is_final : BusFault → Bool
 is_final (faults.Script rule) = false
-is_final _ = true
+is_final (faults.Grammar fault) = true
+is_final (faults.Topology fault) = true
+is_final faults.WriteFault = true
+is_final faults.NoMemory = true

@@ -85,7 +85,18 @@ abbrev pub step_describing : List ℕ → List Reading → Phrase → Step
 step_describing bytes meters nothing_line = silently (describing bytes meters)
 step_describing bytes meters (bytes_line more) = step_feed (bytes ++ more) meters
 step_describing bytes meters go_line = step_go bytes meters
-step_describing bytes meters _ = breaks_rule 5
+step_describing bytes meters (control_line setup sent) = breaks_rule 5
+step_describing bytes meters (get_line name) = breaks_rule 5
+step_describing bytes meters (set_line name value) = breaks_rule 5
+step_describing bytes meters (show_line name) = breaks_rule 5
+step_describing bytes meters (break_line after) = breaks_rule 5
+step_describing bytes meters (append_line number samples) = breaks_rule 5
+step_describing bytes meters (track_line number tone) = breaks_rule 5
+step_describing bytes meters (jack_line terminal tone) = breaks_rule 5
+step_describing bytes meters (deviate_line domain ppm) = breaks_rule 5
+step_describing bytes meters (microframes_line count marks) = breaks_rule 5
+step_describing bytes meters (detail_line level) = breaks_rule 5
+step_describing bytes meters report_line = breaks_rule 5
 
 -- ---- from there on
 

@@ -80,10 +80,8 @@ fn start<K: Sink>(
     ensures never_falls { K.faults sink.old ≤ K.faults sink.new }
     ensures faultless { OnOk result (K.faults sink.new ≡ K.faults sink.old) }
 {
-    match Running::new(alloc, described.function, described.configuration) {
-        Ok(running) => announce(running, sink),
-        Err(_) => Err(BusFault::NoMemory),
-    }
+    let running = Running::new(alloc, described.function, described.configuration)?;
+    announce(running, sink)
 }
 
 /// A device whose line of the descriptor's end is printed.

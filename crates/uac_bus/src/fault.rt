@@ -1,5 +1,7 @@
 // Why a line isn't done.
 use thiserror::Error;
+use uac_descriptor::NoMemory;
+use uac_edges::Failed;
 use uac_grammar::GrammarFault;
 use uac_topology::TopologyFault;
 
@@ -21,4 +23,26 @@ pub enum BusFault {
     /// There was no memory.
     #[error("no memory")]
     NoMemory,
+}
+
+impl From<Failed> for BusFault {
+    ghost use Rattle.std.specs.Prelude.{◌≡◌};
+    ghost use Rattle.uac_bus.specs.declared.fault.BusFault.TheVariants as faults;
+
+    ghost from_gives = { λ _ e. e ≡ faults.WriteFault };
+
+    fn from(_failed: Failed) -> BusFault {
+        BusFault::WriteFault
+    }
+}
+
+impl From<NoMemory> for BusFault {
+    ghost use Rattle.std.specs.Prelude.{◌≡◌};
+    ghost use Rattle.uac_bus.specs.declared.fault.BusFault.TheVariants as faults;
+
+    ghost from_gives = { λ _ e. e ≡ faults.NoMemory };
+
+    fn from(_refused: NoMemory) -> BusFault {
+        BusFault::NoMemory
+    }
 }

@@ -39,10 +39,8 @@ fn append(running: &mut Running, interface: u8, samples: &[i32]) -> Result<(), B
     if !are_frames(function, interface, samples.len()) {
         return Err(BusFault::Script(7));
     }
-    match running.append(interface, samples) {
-        Ok(()) => Ok(()),
-        Err(_) => Err(BusFault::NoMemory),
-    }
+    running.append(interface, samples)?;
+    Ok(())
 }
 
 /// The tone of a track.
@@ -117,10 +115,8 @@ fn run<K: Sink>(
     if !all_name_streams(running.function().streams(), marks) {
         return Err(BusFault::Script(6));
     }
-    match running.microframes(count, marks, rack, meters, sink) {
-        Ok(()) => Ok(()),
-        Err(_) => Err(BusFault::WriteFault),
-    }
+    running.microframes(count, marks, rack, meters, sink)?;
+    Ok(())
 }
 
 /// The report.
@@ -134,10 +130,8 @@ fn report<K: Sink>(running: &Running, meters: &Meters, sink: &mut K) -> Result<(
     ensures never_falls { K.faults sink.old ≤ K.faults sink.new }
     ensures faultless { OnOk result (K.faults sink.new ≡ K.faults sink.old) }
 {
-    match running.report(meters, sink) {
-        Ok(()) => Ok(()),
-        Err(_) => Err(BusFault::WriteFault),
-    }
+    running.report(meters, sink)?;
+    Ok(())
 }
 
 /// Does a line of the running device.

@@ -31,10 +31,8 @@ pub(crate) fn control<K: Sink>(
     ensures faultless { OnOk result (K.faults sink.new ≡ K.faults sink.old) }
 {
     let setup = Setup::read(setup);
-    match running.control(&setup, sent, sink) {
-        Ok(()) => Ok(()),
-        Err(_) => Err(BusFault::WriteFault),
-    }
+    running.control(&setup, sent, sink)?;
+    Ok(())
 }
 
 /// Reads an element from the device.
@@ -51,10 +49,8 @@ pub(crate) fn get<K: Sink>(running: &mut Running, name: &[u8], sink: &mut K) -> 
     let Some(at) = running.element(name) else {
         return Err(BusFault::Script(6));
     };
-    match running.read_element(at, sink) {
-        Ok(()) => Ok(()),
-        Err(_) => Err(BusFault::WriteFault),
-    }
+    running.read_element(at, sink)?;
+    Ok(())
 }
 
 /// Sets an element of the device.
@@ -79,10 +75,8 @@ pub(crate) fn set<K: Sink>(
     if !running.fits(at, value) {
         return Err(BusFault::Script(7));
     }
-    match running.set_element(at, value, sink) {
-        Ok(()) => Ok(()),
-        Err(_) => Err(BusFault::WriteFault),
-    }
+    running.set_element(at, value, sink)?;
+    Ok(())
 }
 
 /// Prints what the host knows of an element.
@@ -98,8 +92,6 @@ pub(crate) fn show<K: Sink>(running: &Running, name: &[u8], sink: &mut K) -> Res
     let Some(at) = running.element(name) else {
         return Err(BusFault::Script(6));
     };
-    match running.show_element(at, sink) {
-        Ok(()) => Ok(()),
-        Err(_) => Err(BusFault::WriteFault),
-    }
+    running.show_element(at, sink)?;
+    Ok(())
 }

@@ -14,8 +14,8 @@ returns-then-not-are_frames-clause-does c = λ shown r written s.
     let frames = are_frames_in _ _ c.args.interface _ _ (c.function-function.ensures ∙ s.now.streaming.device.function) c.are_frames.ensures in
     append_broken _ _ _ (sym out ∙ c.if-not-has_out.false) (sym frames ∙ c.if-not-are_frames.true)
 
-pub returns-in-Ok-clause-does : goal.returns-in-Ok-clause-does
-returns-in-Ok-clause-does c = λ shown r written s.
+pub returns-clause-does : goal.returns-clause-does
+returns-clause-does c = λ shown r written s.
     let streams = streams_in r _ shown _ _ s c.function-function.ensures c.streams.ensures in
     let out = has_out_in _ _ c.args.interface _ streams c.has_out.ensures in
     let function = c.function-function.ensures ∙ s.now.streaming.device.function in
@@ -26,4 +26,4 @@ returns-in-Ok-clause-does c = λ shown r written s.
     (are_whole r.device.function c.args.interface c.args.samples.now numbered (sym frames ∙ c.if-not-are_frames.false))
     in
     unless_reached _ 6 _ _ _ _ (sym out ∙ c.if-not-has_out.false)
-    (unless_reached _ 7 _ _ _ _ (sym frames ∙ c.if-not-are_frames.false) (c.in-Ok.ensures.stands shown r s whole, Appends-nil written))
+    (unless_reached _ 7 _ _ _ _ (sym frames ∙ c.if-not-are_frames.false) (c.in_ok-append.ensures.stands shown r s whole, Appends-nil written))

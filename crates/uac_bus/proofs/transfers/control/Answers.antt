@@ -6,9 +6,9 @@ use Rattle.uac_bus.specs.BusWorld.{step_telling}
 use Rattle.uac_bus.specs.BusKept.{Reaches, BusStageStands}
 use Rattle.uac_bus.proofs.transfers.control.Goals as goal
 
-pub returns-in-Ok-clause-does : goal.returns-in-Ok-clause-does
-returns-in-Ok-clause-does g c = λ shown r s.
-    let tells = c.in-Ok.ensures.tells shown r s in
+pub returns-clause-does : goal.returns-clause-does
+returns-clause-does g c = λ shown r s.
+    let tells = c.in_ok-control.ensures.tells shown r s in
     subst (λ (setup : Setup).
     Reaches (step_telling (transfer setup c.args.sent.now r)) (BusStageStands (stages.Running c.control.new.self) shown) (g.K.Sink.written c.args.sink.now) (g.K.Sink.written c.control.new.sink))
     c.read-setup.ensures (tells.1, tells.0)

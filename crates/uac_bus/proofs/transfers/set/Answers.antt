@@ -8,7 +8,7 @@ use Rattle.uac_running.specs.RunningTransfers.{set_element}
 use Rattle.uac_bus.specs.declared.bus.BusStage.TheVariants as stages
 use Rattle.uac_bus.specs.BusWorld.{Step, breaks_rule}
 use Rattle.uac_bus.specs.BusKept.{IsWriteCut, Reaches, BusStageStands}
-use Rattle.uac_bus.proofs.BusWorldLemmas.{unless_fails, unless_holds}
+use Rattle.uac_bus.proofs.BusWorldLemmas.{cut_handed_on, unless_fails, unless_holds}
 use Rattle.uac_bus.proofs.BusWorldElementLemmas.{on_named}
 use Rattle.uac_bus.proofs.transfers.set.Goals as goal
 
@@ -19,26 +19,26 @@ returns-then-not-fits-clause-does g c = λ shown r s.
     (ap (λ (v : ViewWorld). v.elements) s.now.view) c.in-Some.ensures.there (c.in-Some.ensures.named shown r s)
     (λ x own there. unless_fails _ 7 _ (sym (ap (fits_element x.kind) exact) ∙ sym (c.fits.ensures x own) ∙ c.if-not-fits.true))
 
-pub returns-in-Ok-clause-does : goal.returns-in-Ok-clause-does
-returns-in-Ok-clause-does g c = λ shown r s.
+pub returns-clause-does : goal.returns-clause-does
+returns-clause-does g c = λ shown r s.
     let exact : to_z w32 (of_z w32 c.args.value) ≡ c.args.value = to_z-of_z w32 c.args.value c.ranges.value in
     let reaches = λ (t : Step). Reaches t (BusStageStands (stages.Running c.set_element.new.self) shown) (g.K.Sink.written c.args.sink.now) (g.K.Sink.written c.set_element.new.sink) in
     on_named reaches r c.args.name.now c.args.running.now.view.elements c.in-Some.at _
     (ap (λ (v : ViewWorld). v.elements) s.now.view) c.in-Some.ensures.there (c.in-Some.ensures.named shown r s)
     (λ x own there.
     let tells =
-    subst (λ (z : ℤ). RunningTellsBetween {E = Failed} (set_element x z r) c.set_element.new.self shown (g.K.Sink.written c.args.sink.now) (g.K.Sink.written c.set_element.new.sink) (Ok c.in-Ok.field-0)) exact
-    (c.in-Ok.ensures.tells shown r x s there) in
+    subst (λ (z : ℤ). RunningTellsBetween {E = Failed} (set_element x z r) c.set_element.new.self shown (g.K.Sink.written c.args.sink.now) (g.K.Sink.written c.set_element.new.sink) (Ok tt)) exact
+    (c.in_ok-set_element.ensures.tells shown r x s there) in
     subst reaches (sym (unless_holds _ 7 _ (sym (ap (fits_element x.kind) exact) ∙ sym (c.fits.ensures x own) ∙ c.if-not-fits.false))) (tells.1, tells.0))
 
-pub returns-in-Err-clause-does : goal.returns-in-Err-clause-does
-returns-in-Err-clause-does g c = λ shown r s.
+pub returns-in_err-set_element-clause-does : goal.returns-in_err-set_element-clause-does
+returns-in_err-set_element-clause-does g c = λ shown r s.
     let exact : to_z w32 (of_z w32 c.args.value) ≡ c.args.value = to_z-of_z w32 c.args.value c.ranges.value in
     let cut = λ (t : Step). IsWriteCut t (g.K.Sink.written c.args.sink.now) (g.K.Sink.written c.set_element.new.sink) in
-    on_named cut r c.args.name.now c.args.running.now.view.elements c.in-Some.at _
+    cut_handed_on _ _ _ _ _ _ c.from_residual.ensures.1 (on_named cut r c.args.name.now c.args.running.now.view.elements c.in-Some.at _
     (ap (λ (v : ViewWorld). v.elements) s.now.view) c.in-Some.ensures.there (c.in-Some.ensures.named shown r s)
     (λ x own there.
     let tells =
-    subst (λ (z : ℤ). RunningTellsBetween {E = Failed} (set_element x z r) c.set_element.new.self shown (g.K.Sink.written c.args.sink.now) (g.K.Sink.written c.set_element.new.sink) (Err c.in-Err.field-0)) exact
-    (c.in-Err.ensures.tells shown r x s there) in
-    subst cut (sym (unless_holds _ 7 _ (sym (ap (fits_element x.kind) exact) ∙ sym (c.fits.ensures x own) ∙ c.if-not-fits.false))) tells.0)
+    subst (λ (z : ℤ). RunningTellsBetween {E = Failed} (set_element x z r) c.set_element.new.self shown (g.K.Sink.written c.args.sink.now) (g.K.Sink.written c.set_element.new.sink) (Err (record {}))) exact
+    (c.in_err-set_element.ensures.tells shown r x s there) in
+    subst cut (sym (unless_holds _ 7 _ (sym (ap (fits_element x.kind) exact) ∙ sym (c.fits.ensures x own) ∙ c.if-not-fits.false))) tells.0))

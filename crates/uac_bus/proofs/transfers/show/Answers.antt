@@ -4,19 +4,22 @@ use Rattle.uac_running.specs.RunningTransfers.{show_element}
 use Rattle.uac_bus.specs.declared.bus.BusStage.TheVariants as stages
 use Rattle.uac_bus.specs.BusWorld.{Step}
 use Rattle.uac_bus.specs.BusKept.{IsWriteCut, Reaches, BusStageStands}
+use Rattle.uac_bus.proofs.BusWorldLemmas.{cut_handed_on}
 use Rattle.uac_bus.proofs.BusWorldElementLemmas.{on_named}
 use Rattle.uac_bus.proofs.transfers.show.Goals as goal
 
-pub returns-in-Ok-clause-does : goal.returns-in-Ok-clause-does
+pub returns-clause-does : goal.returns-clause-does
 unfolding show_element
-returns-in-Ok-clause-does g c = λ shown r s.
+returns-clause-does g c = λ shown r s.
     on_named (λ (t : Step). Reaches t (BusStageStands (stages.Running c.args.running.now) shown) (g.K.Sink.written c.args.sink.now) (g.K.Sink.written c.show_element.new.sink))
     r c.args.name.now c.args.running.now.view.elements c.in-Some.at _ (ap (λ (v : ViewWorld). v.elements) s.now.view) c.in-Some.ensures.there
-    (c.in-Some.ensures.named shown r s) (λ x own there. (s, c.in-Ok.ensures.printed x own))
+    (c.in-Some.ensures.named shown r s) (λ x own there. (s, c.in_ok-show_element.ensures.printed x own))
 
-pub returns-in-Err-clause-does : goal.returns-in-Err-clause-does
+pub returns-in_err-show_element-clause-does : goal.returns-in_err-show_element-clause-does
 unfolding show_element
-returns-in-Err-clause-does g c = λ shown r s.
+returns-in_err-show_element-clause-does g c = λ shown r s.
+    cut_handed_on _ _ _ _ _ _ c.from_residual.ensures.1 (
     on_named (λ (t : Step). IsWriteCut t (g.K.Sink.written c.args.sink.now) (g.K.Sink.written c.show_element.new.sink))
     r c.args.name.now c.args.running.now.view.elements c.in-Some.at _ (ap (λ (v : ViewWorld). v.elements) s.now.view) c.in-Some.ensures.there
-    (c.in-Some.ensures.named shown r s) (λ x own there. c.in-Err.ensures.printed x own)
+    (c.in-Some.ensures.named shown r s) (λ x own there. c.in_err-show_element.ensures.printed x own)
+    )
