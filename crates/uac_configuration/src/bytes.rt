@@ -11,14 +11,8 @@ use uac_descriptor::{Block, ByteList, NoMemory};
 pub(crate) fn configuration_in(alloc: Global, blocks: &[Block]) -> Result<ByteList, NoMemory>
     ensures { IfOk result (λ configuration. configuration ≡ configuration_of (flat_map spelling blocks.now)) }
 {
-    match bytes_of(alloc, blocks) {
-        Ok(bytes) => {
-            let configuration = configuration_of(alloc, bytes.as_slice());
-            drop(bytes);
-            configuration
-        }
-        Err(NoMemory) => Err(NoMemory),
-    }
+    let bytes = bytes_of(alloc, blocks)?;
+    configuration_of(alloc, bytes.as_slice())
 }
 
 /// The bytes of blocks, one after the other.

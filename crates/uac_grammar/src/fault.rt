@@ -1,4 +1,6 @@
 // Why a reader stopped.
+use std::alloc::AllocFailed;
+use uac_descriptor::{Block, NoMemory};
 use uac_sentence::GrammarFault;
 
 /// Why a reader stopped.
@@ -8,4 +10,27 @@ pub enum ReadStop {
     Fault(GrammarFault),
     /// No memory was found.
     NoMemory,
+}
+
+impl From<NoMemory> for ReadStop {
+    ghost use Rattle.std.specs.Prelude.{◌≡◌};
+    ghost use Rattle.uac_grammar.specs.declared.fault.ReadStop.TheVariants as stops;
+
+    ghost from_gives = { λ _ stop. stop ≡ stops.NoMemory };
+
+    fn from(_refused: NoMemory) -> ReadStop {
+        ReadStop::NoMemory
+    }
+}
+
+// The block that found no room is dropped.
+impl From<AllocFailed<Block>> for ReadStop {
+    ghost use Rattle.std.specs.Prelude.{◌≡◌};
+    ghost use Rattle.uac_grammar.specs.declared.fault.ReadStop.TheVariants as stops;
+
+    ghost from_gives = { λ _ stop. stop ≡ stops.NoMemory };
+
+    fn from(_refused: AllocFailed<Block>) -> ReadStop {
+        ReadStop::NoMemory
+    }
 }

@@ -78,10 +78,8 @@ fn keep(
     if has_row(bytes[1]) {
         return keep_by_row(alloc, blocks, state, place, bytes);
     }
-    match read_whole(alloc, bytes) {
-        Ok(block) => keep_block(blocks, state, place, bytes, block),
-        Err(_) => Err(ReadStop::NoMemory),
-    }
+    let block = read_whole(alloc, bytes)?;
+    keep_block(blocks, state, place, bytes, block)
 }
 
 /// Reads and keeps, as `keep`, a whole block that a row of the layouts may read. This stands in a function of its own, so that the room
@@ -99,10 +97,9 @@ fn keep_by_row(
     ensures { MatchResult result (λ _. AddsBlock blocks.old.items blocks.new.items state.old state.new place bytes.now)
         (λ stop. Refuses blocks.old.items blocks.new.items state.old state.new place bytes.now stop) }
 {
-    match read_block(alloc, state.context, bytes) {
-        Ok(Some(block)) => keep_block(blocks, state, place, bytes, block),
-        Ok(None) => Err(ReadStop::Fault(GrammarFault { rule: 3, at: place })),
-        Err(_) => Err(ReadStop::NoMemory),
+    match read_block(alloc, state.context, bytes)? {
+        Some(block) => keep_block(blocks, state, place, bytes, block),
+        None => Err(ReadStop::Fault(GrammarFault { rule: 3, at: place })),
     }
 }
 
@@ -124,10 +121,8 @@ fn keep_block(
         return Err(ReadStop::Fault(GrammarFault { rule, at: place }));
     }
     state.take(place, &block);
-    match blocks.push(block) {
-        Ok(()) => Ok(()),
-        Err(_) => Err(ReadStop::NoMemory),
-    }
+    blocks.push(block)?;
+    Ok(())
 }
 
 /// Judges the end of the input at this place, with the bytes of a block that isn't whole.

@@ -31,16 +31,23 @@ abbrev pub lent_phrase_result : Result LentLine ℕ → Result Phrase ℕ
 lent_phrase_result (Ok line) = Ok (lent_phrase line)
 lent_phrase_result (Err rule) = Err rule
 
--- the long parts have room in a value of `Line`
+-- the long parts have room in a value of `Line`; a line that has no long part always fits
 abbrev pub Fits : LentLine → Type 0
+Fits Nothing = Unit {0}
 Fits (Bytes bytes) = length bytes.now ≤ 2048
+Fits Go = Unit {0}
 Fits (Control setup sent) = length sent.now ≤ 2048
 Fits (Get name) = length name.now ≤ 4096
 Fits (Set name value) = length name.now ≤ 4096
 Fits (Show name) = length name.now ≤ 4096
+Fits (Break after) = Unit {0}
 Fits (Append interface samples) = length samples.now ≤ 2048
+Fits (Track interface tone) = Unit {0}
+Fits (Jack terminal tone) = Unit {0}
+Fits (Deviate domain ppm) = Unit {0}
 Fits (Run count marks) = length marks.now ≤ 24
-Fits _ = Unit {0}
+Fits (Detail level) = Unit {0}
+Fits Report = Unit {0}
 
 -- a line that `LentLine::read` gives: each number in its range, no part empty
 abbrev pub IsLentInRange : LentLine → Type 0

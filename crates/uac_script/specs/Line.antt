@@ -100,14 +100,23 @@ phrase_of (Run count marks) = microframes_line (pos count) (map phrase_mark mark
 phrase_of (Detail level) = detail_line (pos level)
 phrase_of Report = report_line
 
--- what a line has besides the ranges of its numbers: bytes of `d`, names and samples that aren't empty
+-- what a line has besides the ranges of its numbers: bytes of `d`, names and samples that aren't empty; nothing is asked of the others
 abbrev pub HasNoEmptyPart : Phrase → Type 0
+HasNoEmptyPart nothing_line = Unit {0}
 HasNoEmptyPart (bytes_line bytes) = bytes ≢ []
+HasNoEmptyPart go_line = Unit {0}
+HasNoEmptyPart (control_line setup sent) = Unit {0}
 HasNoEmptyPart (get_line name) = name ≢ []
 HasNoEmptyPart (set_line name value) = name ≢ []
 HasNoEmptyPart (show_line name) = name ≢ []
+HasNoEmptyPart (break_line after) = Unit {0}
 HasNoEmptyPart (append_line interface samples) = samples ≢ []
-HasNoEmptyPart _ = Unit {0}
+HasNoEmptyPart (track_line interface tone) = Unit {0}
+HasNoEmptyPart (jack_line terminal tone) = Unit {0}
+HasNoEmptyPart (deviate_line domain ppm) = Unit {0}
+HasNoEmptyPart (microframes_line count marks) = Unit {0}
+HasNoEmptyPart (detail_line level) = Unit {0}
+HasNoEmptyPart report_line = Unit {0}
 
 -- a line that `Line::read` gives: each number in its range, no part empty
 abbrev pub IsLineInRange : Line → Type 0

@@ -73,8 +73,6 @@ pub fn read(text: &[u8]) -> Result<Line, u8>
     ensures { phrase_result result ≡ answer text.now }
 {
     let mut room = LineRoom::new();
-    match read_into(text, &mut room) {
-        Ok(line) => Ok(owned_line(line)),
-        Err(rule) => Err(rule),
-    }
+    let line = read_into(text, &mut room)?;
+    Ok(owned_line(line))
 }

@@ -253,10 +253,8 @@ pub fn track<'a>(words: Words<'_>) -> Result<LentLine<'a>, u8>
     ensures says { lent_phrase_result result ≡ verdict_of (track_line_of (words_left words.entry.rest)) }
     ensures fits { IfOk result Fits }
 {
-    match signal(words) {
-        Ok((interface, tone)) => Ok(LentLine::Track { interface, tone }),
-        Err(rule) => Err(rule),
-    }
+    let (interface, tone) = signal(words)?;
+    Ok(LentLine::Track { interface, tone })
 }
 
 /// The tone of an input jack.
@@ -264,10 +262,8 @@ pub fn jack<'a>(words: Words<'_>) -> Result<LentLine<'a>, u8>
     ensures says { lent_phrase_result result ≡ verdict_of (jack_line_of (words_left words.entry.rest)) }
     ensures fits { IfOk result Fits }
 {
-    match signal(words) {
-        Ok((terminal, tone)) => Ok(LentLine::Jack { terminal, tone }),
-        Err(rule) => Err(rule),
-    }
+    let (terminal, tone) = signal(words)?;
+    Ok(LentLine::Jack { terminal, tone })
 }
 
 /// The deviation of a domain.
