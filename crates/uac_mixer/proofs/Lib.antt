@@ -10,3 +10,4 @@ pub mod ViewTransfersLemmas
 pub mod ViewLinksCallLemmas
 pub mod ViewLinksReadLemmas
 pub mod MixerElementsKeyLemmas
+mod Worked

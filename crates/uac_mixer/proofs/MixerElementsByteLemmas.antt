@@ -1,90 +1,71 @@
 -- Values come back from their bytes.
-use Rattle.std.proofs.Common.{◌≡◌, refl, ap, ℕ, ◌-◌, ◌≤◌, ◌<◌, nat_le, true, false, if◌then◌else◌, ℤ, pos, negsuc, length, arith}
-use Rattle.uac_request.specs.Requests.{value_bytes, value_from}
+use Rattle.std.proofs.Common.{◌≡◌, refl, sym, ℕ, ◌-◌, ◌*◌, ◌^◌, ◌≤◌, ◌<◌, Bool, true, false, ℤ, pos, negsuc, inl, inr, length, arith}
+use Rattle.std.proofs.lemmas.Bool.{and_parts}
+use Rattle.uac_request.specs.Requests.{IsWithin, value_bytes, value_from}
+use Rattle.uac_request.proofs.RequestsByteLemmas.{IsWidth, length_value, value_back}
 use Rattle.uac_mixer.specs.declared.kinds.ElementKind.{ElementKind}
 use Rattle.uac_mixer.specs.declared.kinds.ElementKind.TheVariants as shown
-use Rattle.uac_mixer.specs.MixerElements.{fits_element, is_below, is_gain, is_signed_16, width_of}
+use Rattle.uac_mixer.specs.MixerElements.{fits_element, is_gain, lies_in, width_of}
 
--- ---- numbers
+-- ---- widths
 
-one_byte : (n : ℕ) → n < 256 → value_from false (value_bytes 1 (pos n)) ≡ pos n
-unfolding value_from value_bytes
-one_byte n below = ap pos (omega arith)
+-- an element's control has one, two or four bytes
+width_is : (k : ElementKind) → IsWidth (width_of k)
+width_is shown.Rate = inr (inr refl)
+width_is shown.Clock = inl refl
+width_is shown.Times = inr (inl refl)
+width_is shown.Over = inr (inl refl)
+width_is shown.Mix = inr (inl refl)
+width_is shown.Select = inl refl
+width_is shown.Mute = inl refl
+width_is shown.Volume = inr (inl refl)
+width_is shown.Enable = inl refl
 
-two_bytes : (n : ℕ) → n < 65536 → value_from false (value_bytes 2 (pos n)) ≡ pos n
-unfolding value_from value_bytes
-two_bytes n below = ap pos (omega arith)
+at_least_one : (w : ℕ) → IsWidth w → 1 ≤ w
+at_least_one w (inl one) = omega (arith, one)
+at_least_one w (inr (inl two)) = omega (arith, two)
+at_least_one w (inr (inr four)) = omega (arith, four)
 
-four_bytes : (n : ℕ) → n < 4294967296 → value_from false (value_bytes 4 (pos n)) ≡ pos n
-unfolding value_from value_bytes
-four_bytes n below = ap pos (omega arith)
+at_most_four : (w : ℕ) → IsWidth w → w ≤ 4
+at_most_four w (inl one) = omega (arith, one)
+at_most_four w (inr (inl two)) = omega (arith, two)
+at_most_four w (inr (inr four)) = omega (arith, four)
 
--- the sign of two bytes
-not_negative : (n m : ℕ) → m ≡ n → n < 32768 → (if nat_le 32768 m then negsuc (65535 - m) else pos m) ≡ pos n
-not_negative n m is below = let high : nat_le 32768 m ≡ false = grind arith in rw high (ap pos is)
+-- at least one, and at most four
+pub some : (k : ElementKind) → 1 ≤ width_of k
+some k = at_least_one (width_of k) (width_is k)
 
-negative : (n m : ℕ) → m ≡ 65535 - n → n < 32768 → (if nat_le 32768 m then negsuc (65535 - m) else pos m) ≡ negsuc n
-negative n m is below = let high : nat_le 32768 m ≡ true = grind arith in let back : 65535 - m ≡ n = omega arith in rw high (ap negsuc back)
-
-signed_above : (n : ℕ) → n < 32768 → value_from true (value_bytes 2 (pos n)) ≡ pos n
-unfolding value_from value_bytes
-signed_above n below = not_negative n _ (omega arith) below
-
-signed_below : (n : ℕ) → n < 32768 → value_from true (value_bytes 2 (negsuc n)) ≡ negsuc n
-unfolding value_from value_bytes
-signed_below n below = negative n _ (omega arith) below
-
--- ---- values
-
-long : (v : ℤ) → is_below 2147483648 v ≡ true → value_from false (value_bytes 4 v) ≡ v
-long (pos n) fits = let below : n < 4294967296 = grind arith in four_bytes n below
-long (negsuc n) fits = cc
-
-word : (v : ℤ) → is_below 65536 v ≡ true → value_from false (value_bytes 2 v) ≡ v
-word (pos n) fits = let below : n < 65536 = grind arith in two_bytes n below
-word (negsuc n) fits = cc
-
-byte : (v : ℤ) → is_below 256 v ≡ true → value_from false (value_bytes 1 v) ≡ v
-byte (pos n) fits = let below : n < 256 = grind arith in one_byte n below
-byte (negsuc n) fits = cc
-
-gain : (v : ℤ) → is_signed_16 v ≡ true → value_from true (value_bytes 2 v) ≡ v
-gain (pos n) fits = let below : n < 32768 = grind arith in signed_above n below
-gain (negsuc n) fits = let below : n < 32768 = grind arith in signed_below n below
-
--- a value that fits its element's control comes back
-pub comes_back : (k : ElementKind) (v : ℤ) → fits_element k v ≡ true → value_from (is_gain k) (value_bytes (width_of k) v) ≡ v
-comes_back shown.Rate v fits = long v fits
-comes_back shown.Clock v fits = byte v fits
-comes_back shown.Times v fits = word v fits
-comes_back shown.Over v fits = word v fits
-comes_back shown.Mix v fits = gain v fits
-comes_back shown.Select v fits = byte v fits
-comes_back shown.Mute v fits = byte v fits
-comes_back shown.Volume v fits = gain v fits
-comes_back shown.Enable v fits = byte v fits
+pub few : (k : ElementKind) → width_of k ≤ 4
+few k = at_most_four (width_of k) (width_is k)
 
 -- a value has as many bytes as its control
 pub whole : (k : ElementKind) (v : ℤ) → length (value_bytes (width_of k) v) ≡ width_of k
-unfolding value_bytes
-whole shown.Rate v = refl
-whole shown.Clock v = refl
-whole shown.Times v = refl
-whole shown.Over v = refl
-whole shown.Mix v = refl
-whole shown.Select v = refl
-whole shown.Mute v = refl
-whole shown.Volume v = refl
-whole shown.Enable v = refl
+whole k v = length_value (width_of k) v
 
--- at most four
-pub few : (k : ElementKind) → width_of k ≤ 4
-few shown.Rate = omega arith
-few shown.Clock = omega arith
-few shown.Times = omega arith
-few shown.Over = omega arith
-few shown.Mix = omega arith
-few shown.Select = omega arith
-few shown.Mute = omega arith
-few shown.Volume = omega arith
-few shown.Enable = omega arith
+-- ---- values
+
+-- the numbers that so many bits have are those that the bytes have, and half of them are negative where there is a sign
+in_bits : (w : ℕ) → IsWidth w → 2 ^ (8 * w) ≡ 256 ^ w
+in_bits w (inl one) = rw one refl
+in_bits w (inr (inl two)) = rw two refl
+in_bits w (inr (inr four)) = rw four refl
+
+half_in_bits : (w : ℕ) → IsWidth w → 2 * 2 ^ (8 * w - 1) ≡ 256 ^ w
+half_in_bits w (inl one) = rw one refl
+half_in_bits w (inr (inl two)) = rw two refl
+half_in_bits w (inr (inr four)) = rw four refl
+
+doubled : (n half all : ℕ) → 2 * half ≡ all → n < half → 2 * n < all
+doubled n half all is few = omega arith
+
+-- a value that lies in so many bytes has a place in them
+has_place : (signed : Bool) (w : ℕ) (v : ℤ) → IsWidth w → lies_in signed w v ≡ true → IsWithin signed w v
+has_place true w (pos n) wide lies = doubled n (2 ^ (8 * w - 1)) (256 ^ w) (half_in_bits w wide) (grind arith)
+has_place true w (negsuc n) wide lies = doubled n (2 ^ (8 * w - 1)) (256 ^ w) (half_in_bits w wide) (grind arith)
+has_place false w (pos n) wide lies = (let few : n < 2 ^ (8 * w) = grind arith in rw (sym (in_bits w wide)) few)
+has_place false w (negsuc n) wide lies = cc
+
+-- a value that fits its element's control comes back
+pub comes_back : (k : ElementKind) (v : ℤ) → fits_element k v ≡ true → value_from (is_gain k) (value_bytes (width_of k) v) ≡ v
+comes_back k v fits =
+    value_back (width_of k) (width_is k) (is_gain k) v (has_place (is_gain k) (width_of k) v (width_is k) (and_parts (lies_in (is_gain k) (width_of k) v) _ fits).0)

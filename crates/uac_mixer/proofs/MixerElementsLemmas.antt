@@ -1,77 +1,45 @@
 -- The controls that elements stand for, by an entity's kind and the selector.
-use Rattle.std.proofs.Common.{◌≡◌, ◌∙◌, refl, ap, sym, subst, ℕ, ◌%◌, ◌/◌, suc, ◌≤◌, ◌==◌, ◌&&◌, nat_lt, nat_le, Bool, true, false, if◌then◌else◌, ℤ, pos, negsuc, List, Option, Some, None, is_some, arith, rules, inl, inr, [], ◌∷◌, w32, FitsSigned}
+use Rattle.std.proofs.Common.{◌≡◌, ◌∙◌, refl, ap, sym, subst, ℕ, ◌%◌, ◌≤◌, ◌==◌, ◌&&◌, nat_lt, nat_le, Bool, true, false, if◌then◌else◌, ℤ, pos, negsuc, List, Option, Some, None, is_some, arith, rules, inl, inr, [], ◌∷◌, w32, FitsSigned}
 use Rattle.std.specs.Option.{option_and_then}
-use Rattle.std.proofs.lemmas.Bool.{cases_Bool, eqb-true}
+use Rattle.std.proofs.lemmas.Bool.{and_parts, cases_Bool, eqb-true}
 use Rattle.uac_clock.specs.Nominal.{is_listed}
-use Rattle.uac_gain.specs.Gain.{decibel_gain, gain_of, half_above, half_below, raised_gain}
 use Rattle.uac_entities.specs.declared.entity.Entity.{Entity}
 use Rattle.uac_entities.specs.declared.entity.EntityKind.{EntityKind}
 use Rattle.uac_entities.specs.declared.entity.EntityKind.TheVariants as kind
 use Rattle.uac_store.specs.declared.keys.Key.{Key}
 use Rattle.uac_store.specs.declared.controls.Control.{Control}
-use Rattle.uac_store.specs.ControlTable.{choices, control_of, is_frequency, is_one_to, is_switch, selectors_of, takes_by}
+use Rattle.uac_store.specs.ControlTable.{control_of, is_frequency, selectors_of, takes_by}
 use Rattle.uac_store.proofs.ControlTableLemmas.{one_or_two}
-use Rattle.uac_request.specs.Requests.{entity_bytes, entity_width, is_signed, kept_bytes}
+use Rattle.uac_request.specs.Requests.{entity_bytes, entity_width, is_signed, IsWithin, kept_bytes}
+use Rattle.uac_request.proofs.RequestsByteLemmas.{taken_within}
 use Rattle.uac_mixer.specs.declared.kinds.ElementKind.{ElementKind}
 use Rattle.uac_mixer.specs.declared.kinds.ElementKind.TheVariants as shown
-use Rattle.uac_mixer.specs.MixerElements.{element_of, fits_element, is_below, is_gain, is_signed_16, kind_at, width_of}
+use Rattle.uac_mixer.specs.MixerElements.{element_of, fits_element, is_gain, kind_at, lies_in, width_of}
 
 -- ---- values that are taken fit
 
-frequency : (attributes : ℕ) (v : ℤ) → is_frequency attributes v ≡ true → is_below 2147483648 v ≡ true
+frequency_fits : (n : ℕ) → n ≤ 192000 → fits_element shown.Rate (pos n) ≡ true
+frequency_fits n few = grind arith
+
+frequency : (attributes : ℕ) (v : ℤ) → is_frequency attributes v ≡ true → fits_element shown.Rate v ≡ true
 frequency attributes (negsuc n) taken = cc
 frequency attributes (pos n) taken = elim (cases_Bool (nat_lt (attributes % 4) 2)) [
-  | inl fixed ↦ (let is : (n == 48000) ≡ true = rw fixed at taken in let few : n ≤ 192000 = grind arith in grind arith)
-  | inr listed ↦ (let is : is_listed n ≡ true = rw listed at taken in let few : n ≤ 192000 = grind arith in grind arith)
+  | inl fixed ↦ (let is : (n == 48000) ≡ true = rw fixed at taken in let few : n ≤ 192000 = grind arith in frequency_fits n few)
+  | inr listed ↦ (let is : is_listed n ≡ true = rw listed at taken in let few : n ≤ 192000 = grind arith in frequency_fits n few)
 ]
 
-one_to : (most : ℕ) (v : ℤ) → most ≤ 255 → is_one_to most v ≡ true → is_below 256 v ≡ true
-one_to most (pos n) few taken = grind arith
-one_to most (negsuc n) few taken = cc
+-- a value of one byte, of two, and one of two with a sign
+byte : (v : ℤ) → IsWithin false 1 v → (lies_in false 1 v && lies_in true 4 v) ≡ true
+byte (pos n) within = grind arith
+byte (negsuc n) within = absurd within
 
-few_choices : (pins : ℕ) → choices pins ≤ 255
-few_choices pins = elim (cases_Bool (nat_lt pins 256)) [
-  | inl below ↦ (rw below (grind arith))
-  | inr above ↦ (rw above (omega arith))
-]
+word : (v : ℤ) → IsWithin false 2 v → (lies_in false 2 v && lies_in true 4 v) ≡ true
+word (pos n) within = grind arith
+word (negsuc n) within = absurd within
 
-multiple : (v : ℤ) → is_one_to 8 v ≡ true → is_below 65536 v ≡ true
-multiple (pos n) taken = grind arith
-multiple (negsuc n) taken = cc
-
-switch : (v : ℤ) → is_switch v ≡ true → is_below 256 v ≡ true
-switch (pos n) taken = grind arith
-switch (negsuc n) taken = cc
-
--- a gain lies within 16 bits
-above : (n : ℕ) (a b : Bool) (x y : ℕ) → (a ≡ true → n ≤ 3072) → (b ≡ true → n ≤ 3072)
-    → is_some (if a then Some x else if b then Some y else None) ≡ true → n ≤ 3072
-above n true b x y first second there = first refl
-above n false true x y first second there = second refl
-above n false false x y first second there = cc
-
-below : (n : ℕ) (c a b : Bool) (x y z : ℕ) → (c ≡ true → n ≤ 32767) → (a ≡ true → n ≤ 32767) → (b ≡ true → n ≤ 32767)
-    → is_some (if c then Some z else if a then Some x else if b then Some y else None) ≡ true → n ≤ 32767
-below n true a b x y z silent first second there = silent refl
-below n false true b x y z silent first second there = first refl
-below n false false true x y z silent first second there = second refl
-below n false false false x y z silent first second there = cc
-
-le_from : (a : Bool) (n m : ℕ) → (a && nat_le n m) ≡ true → n ≤ m
-le_from true n m h = grind arith
-le_from false n m h = cc
-
-in_gain : (v : ℤ) → is_some (gain_of v) ≡ true → is_signed_16 v ≡ true
-in_gain (pos n) there =
-    let few : n ≤ 3072 =
-    above n (n % 256 == 0 && nat_le n 3072) (n % 256 == 128 && nat_le n 2944) (raised_gain (n / 256)) (half_above (raised_gain (n / 256)))
-    (λ is. le_from (n % 256 == 0) n 3072 is) (λ is. (let low : n ≤ 2944 = le_from (n % 256 == 128) n 2944 is in omega arith)) there in
-    grind arith
-in_gain (negsuc n) there =
-    let few : n ≤ 32767 =
-    below n (n == 32767) (suc n % 256 == 0 && nat_le (suc n) 24576) (suc n % 256 == 128 && nat_le (suc n) 8064) (decibel_gain (suc n / 256)) (half_below (decibel_gain (suc n / 256))) 0
-    (λ is. (let it : n ≡ 32767 = eqb-true n 32767 is in omega arith)) (λ is. (let low : suc n ≤ 24576 = le_from (suc n % 256 == 0) (suc n) 24576 is in omega arith)) (λ is. (let low : suc n ≤ 8064 = le_from (suc n % 256 == 128) (suc n) 8064 is in omega arith)) there in
-    grind arith
+gain : (v : ℤ) → IsWithin true 2 v → (lies_in true 2 v && lies_in true 4 v) ≡ true
+gain (pos n) within = grind arith
+gain (negsuc n) within = grind arith
 
 -- ---- what is so of a control by its kind
 
@@ -109,7 +77,7 @@ clock = record {
   signed = refl;
   above = refl;
   kept = refl;
-  fits = λ pins attributes v taken. one_to (choices pins) v (few_choices pins) taken;
+  fits = λ pins attributes v taken. byte v (taken_within kind.ClockSelector pins attributes 1 v refl refl taken);
   told = λ e controls key of is. width_told kind.ClockSelector 1 shown.Clock e controls key refl of is;
 }
 
@@ -119,7 +87,7 @@ times = record {
   signed = refl;
   above = refl;
   kept = refl;
-  fits = λ pins attributes v taken. multiple v taken;
+  fits = λ pins attributes v taken. word v (taken_within kind.ClockMultiplier pins attributes 1 v refl refl taken);
   told = λ e controls key of is. width_told kind.ClockMultiplier 1 shown.Times e controls key refl of is;
 }
 
@@ -129,7 +97,7 @@ over = record {
   signed = refl;
   above = refl;
   kept = refl;
-  fits = λ pins attributes v taken. multiple v taken;
+  fits = λ pins attributes v taken. word v (taken_within kind.ClockMultiplier pins attributes 2 v refl refl taken);
   told = λ e controls key of is. width_told kind.ClockMultiplier 2 shown.Over e controls key refl of is;
 }
 
@@ -139,7 +107,7 @@ mix = record {
   signed = refl;
   above = refl;
   kept = refl;
-  fits = λ pins attributes v taken. in_gain v taken;
+  fits = λ pins attributes v taken. gain v (taken_within kind.Mixer pins attributes 1 v refl refl taken);
   told = λ e controls key of is. width_told kind.Mixer 1 shown.Mix e controls key refl of is;
 }
 
@@ -149,7 +117,7 @@ select = record {
   signed = refl;
   above = refl;
   kept = refl;
-  fits = λ pins attributes v taken. one_to (choices pins) v (few_choices pins) taken;
+  fits = λ pins attributes v taken. byte v (taken_within kind.Selector pins attributes 1 v refl refl taken);
   told = λ e controls key of is. width_told kind.Selector 1 shown.Select e controls key refl of is;
 }
 
@@ -159,7 +127,7 @@ mute = record {
   signed = refl;
   above = refl;
   kept = refl;
-  fits = λ pins attributes v taken. switch v taken;
+  fits = λ pins attributes v taken. byte v (taken_within kind.Feature pins attributes 1 v refl refl taken);
   told = λ e controls key of is. width_told kind.Feature 1 shown.Mute e controls key refl of is;
 }
 
@@ -169,7 +137,7 @@ volume = record {
   signed = refl;
   above = refl;
   kept = refl;
-  fits = λ pins attributes v taken. in_gain v taken;
+  fits = λ pins attributes v taken. gain v (taken_within kind.Feature pins attributes 2 v refl refl taken);
   told = λ e controls key of is. width_told kind.Feature 2 shown.Volume e controls key refl of is;
 }
 
@@ -179,7 +147,7 @@ enable = record {
   signed = refl;
   above = refl;
   kept = refl;
-  fits = λ pins attributes v taken. switch v taken;
+  fits = λ pins attributes v taken. byte v (taken_within kind.Effect pins attributes 1 v refl refl taken);
   told = λ e controls key of is. width_told kind.Effect 1 shown.Enable e controls key refl of is;
 }
 
@@ -220,22 +188,9 @@ agrees k s x is = elim (one_or_two k s (shown_some (control_of k s) x is)) [
 ]
 
 -- a value that fits is one of 32 bits
+in_four : (v : ℤ) → lies_in true 4 v ≡ true → FitsSigned w32 v
+in_four (pos n) lies = (let few : n ≤ 2147483647 = grind arith in search rules)
+in_four (negsuc n) lies = (let few : n ≤ 2147483647 = grind arith in search rules)
+
 pub narrow : (x : ElementKind) (v : ℤ) → fits_element x v ≡ true → FitsSigned w32 v
-narrow shown.Rate (pos n) fits = (let few : n ≤ 2147483647 = grind arith in search rules)
-narrow shown.Clock (pos n) fits = (let few : n ≤ 2147483647 = grind arith in search rules)
-narrow shown.Times (pos n) fits = (let few : n ≤ 2147483647 = grind arith in search rules)
-narrow shown.Over (pos n) fits = (let few : n ≤ 2147483647 = grind arith in search rules)
-narrow shown.Mix (pos n) fits = (let few : n ≤ 2147483647 = grind arith in search rules)
-narrow shown.Select (pos n) fits = (let few : n ≤ 2147483647 = grind arith in search rules)
-narrow shown.Mute (pos n) fits = (let few : n ≤ 2147483647 = grind arith in search rules)
-narrow shown.Volume (pos n) fits = (let few : n ≤ 2147483647 = grind arith in search rules)
-narrow shown.Enable (pos n) fits = (let few : n ≤ 2147483647 = grind arith in search rules)
-narrow shown.Rate (negsuc n) fits = cc
-narrow shown.Clock (negsuc n) fits = cc
-narrow shown.Times (negsuc n) fits = cc
-narrow shown.Over (negsuc n) fits = cc
-narrow shown.Mix (negsuc n) fits = (let few : n ≤ 2147483647 = grind arith in search rules)
-narrow shown.Select (negsuc n) fits = cc
-narrow shown.Mute (negsuc n) fits = cc
-narrow shown.Volume (negsuc n) fits = (let few : n ≤ 2147483647 = grind arith in search rules)
-narrow shown.Enable (negsuc n) fits = cc
+narrow x v fits = in_four v (and_parts (lies_in (is_gain x) (width_of x) v) _ fits).1

@@ -1,6 +1,6 @@
 -- The elements of a function: the controls that a host's mixer shows. They are the declared controls that keep a value (Audio Class 2.0,
 -- 5.2.5), in block order, then by selector, then by channel; each node of a mixer is one (profile).
-use Rattle.std.specs.Prelude.{ℕ, nat_lt, Bool, false, if◌then◌else◌, ℤ, pos, negsuc, List, ◌++◌, codes, decimal}
+use Rattle.std.specs.Prelude.{ℕ, ◌-◌, ◌*◌, ◌^◌, ◌&&◌, nat_lt, Bool, true, false, if◌then◌else◌, ℤ, pos, negsuc, List, ◌++◌, codes, decimal}
 use Rattle.std.specs.Prelude.{Option, Some, None}
 use Rattle.std.specs.List.{filter_map, flat_map, range_with_len}
 use Rattle.std.specs.Option.{option_and_then}
@@ -100,24 +100,13 @@ width_of x = (facts_of (control_shown x)).width
 abbrev pub is_gain : ElementKind → Bool
 is_gain x = (facts_of (control_shown x)).signed
 
--- a number that isn't negative and below this
-abbrev pub is_below : ℕ → ℤ → Bool
-is_below bound (pos n) = nat_lt n bound
-is_below bound (negsuc n) = false
+-- a value lies in so many bytes: with a sign from -2^(8 * width - 1) to 2^(8 * width - 1) - 1, without one from 0 to 2^(8 * width) - 1
+abbrev pub lies_in : Bool → ℕ → ℤ → Bool
+lies_in true width (pos n) = nat_lt n (2 ^ (8 * width - 1))
+lies_in true width (negsuc n) = nat_lt n (2 ^ (8 * width - 1))
+lies_in false width (pos n) = nat_lt n (2 ^ (8 * width))
+lies_in false width (negsuc n) = false
 
--- a number of 16 bits in two's complement
-abbrev pub is_signed_16 : ℤ → Bool
-is_signed_16 (pos n) = nat_lt n 32768
-is_signed_16 (negsuc n) = nat_lt n 32768
-
--- a value fits the bytes of its element's control (profile: a frequency is less than 2147483648)
+-- a value fits an element: it lies in the bytes of its control, and in four with a sign (profile: a frequency is less than 2147483648)
 abbrev pub fits_element : ElementKind → ℤ → Bool
-fits_element shown.Rate v = is_below 2147483648 v
-fits_element shown.Clock v = is_below 256 v
-fits_element shown.Times v = is_below 65536 v
-fits_element shown.Over v = is_below 65536 v
-fits_element shown.Mix v = is_signed_16 v
-fits_element shown.Select v = is_below 256 v
-fits_element shown.Mute v = is_below 256 v
-fits_element shown.Volume v = is_signed_16 v
-fits_element shown.Enable v = is_below 256 v
+fits_element x v = lies_in (is_gain x) (width_of x) v && lies_in true 4 v

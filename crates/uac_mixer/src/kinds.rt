@@ -65,9 +65,10 @@ impl ElementKind {
     }
 
     /// The bytes of the control (Audio Class 2.0, 5.2.5.1 to 5.2.5.8).
-    #[tactic(auto, using(crate::proofs::MixerElementsByteLemmas::few))]
+    #[tactic(auto, using(crate::proofs::MixerElementsByteLemmas::some, crate::proofs::MixerElementsByteLemmas::few))]
     pub fn width(self) -> u8
         ensures value { result ≡ spec.width_of self }
+        ensures some { 1 ≤ result }
         ensures few { result ≤ 4 }
     {
         facts_of(self.control()).width
@@ -80,16 +81,16 @@ impl ElementKind {
         facts_of(self.control()).signed
     }
 
-    /// Whether a value fits the bytes of the control.
+    /// Whether a value, which is one of four bytes with a sign, lies in the bytes of the control.
     pub fn fits(self, value: i32) -> bool
         ensures { result ≡ spec.fits_element self value }
     {
-        match self {
-            ElementKind::Rate => value >= 0,
-            ElementKind::Times | ElementKind::Over => (0..65536).contains(&value),
-            ElementKind::Mix | ElementKind::Volume => (-32768..32768).contains(&value),
-            ElementKind::Clock | ElementKind::Select | ElementKind::Mute | ElementKind::Enable =>
-                (0..256).contains(&value),
+        let bits = 8 * self.width();
+        if self.is_gain() {
+            let half = 1 << (bits - 1);
+            (-half..half).contains(&i64::from(value))
+        } else {
+            (0..1 << bits).contains(&i64::from(value))
         }
     }
 }
@@ -98,10 +99,8 @@ impl ElementKind {
 pub(crate) fn kind_at(entity: EntityKind, selector: u8) -> Option<ElementKind>
     ensures { result ≡ spec.kind_at entity selector }
 {
-    match control_of(entity, selector) {
-        Some(control) => element_of(control),
-        None => None,
-    }
+    let control = control_of(entity, selector)?;
+    element_of(control)
 }
 
 // The element that a control is, None where it keeps no value.

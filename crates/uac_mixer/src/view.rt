@@ -116,10 +116,8 @@ impl View {
         sound_functions_have_keys_and_rates();
         let control = link.function().control_interface();
         let setup = element_setup(GET, control, self.element(at));
-        match self.transfer_at(at, link, &setup, &[]) {
-            Ok(_) => Ok(self.element(at).value.unwrap()),
-            Err(broken) => Err(broken),
-        }
+        self.transfer_at(at, link, &setup, &[])?;
+        Ok(self.element(at).value.unwrap())
     }
 
     /// Sets an element by its SET CUR. After `Stalled` the element stays as it was, and after `Broken` it is unknown.
@@ -139,10 +137,8 @@ impl View {
         let element = self.element(at);
         let setup = element_setup(SET, control, element);
         let bytes = value_bytes(element.kind.width(), value);
-        match self.transfer_at(at, link, &setup, bytes.as_slice()) {
-            Ok(answer) => set_outcome(answer),
-            Err(_) => Err(SetFault::Broken),
-        }
+        let answer = self.transfer_at(at, link, &setup, bytes.as_slice())?;
+        set_outcome(answer)
     }
 
     /// Passes a transfer on, and keeps what is known right.
