@@ -2,7 +2,6 @@
 use Rattle.std.proofs.Common.{◌≡◌, ℕ, ℤ, pos, Result, Bool, true, false, List, [], ◌∷◌, map, refl, ap, subst, ◌∙◌, Option, ◌&&◌}
 use Rattle.std.specs.Io.KnownBytes.{Appends}
 use Rattle.std.specs.List.{list_all}
-use Rattle.uac_entities.specs.declared.stream.StreamInterface.{StreamInterface}
 use Rattle.uac_transcript.specs.Printing.{text_of}
 use Rattle.uac_units.specs.Hearing.{Reading}
 use Rattle.uac_script.specs.declared.line.Mark.{Mark}
@@ -62,21 +61,19 @@ append_broken b c s h k = unless_holds b 6 (unless c 7 s) h ∙ unless_fails c 7
 
 -- ---- what is said of the kept function holds in the world
 
--- these are the streaming interfaces of the device
-pub streams_in : (r : RunningWorld) (p : RunningFields) (shown : List Reading) (function : FunctionFields) (streams : List StreamInterface) → RunningStandsBetween p shown r
-    → function ≡ p.device.function → streams ≡ function.streams → streams ≡ r.device.function.streams
-streams_in r p shown function streams s same is = is ∙ ap (λ (f : FunctionFields). f.streams) (same ∙ s.now.streaming.device.function)
+placed : (function : FunctionFields) (marks : List Mark)
+    → list_all (λ mark. names_stream function (phrase_mark mark)) marks ≡ list_all (names_stream function) (map phrase_mark marks)
+placed function [] = refl
+placed function (mark ∷ marks) = ap (λ (b : Bool). names_stream function (phrase_mark mark) && b) (placed function marks)
 
-placed : (streams : List StreamInterface) (marks : List Mark) → list_all (λ mark. names_stream streams (phrase_mark mark)) marks ≡ list_all (names_stream streams) (map phrase_mark marks)
-placed streams [] = refl
-placed streams (mark ∷ marks) = ap (λ (b : Bool). names_stream streams (phrase_mark mark) && b) (placed streams marks)
+pub has_out_in : (function function' : FunctionFields) (number : ℕ) (b : Bool) → function ≡ function' → b ≡ has_out function number
+    → b ≡ has_out function' number
+has_out_in function function' number b same e = e ∙ ap (λ (f : FunctionFields). has_out f number) same
 
-pub has_out_in : (streams streams' : List StreamInterface) (number : ℕ) (b : Bool) → streams ≡ streams' → b ≡ has_out streams number → b ≡ has_out streams' number
-has_out_in streams streams' number b same e = e ∙ ap (λ (ss : List StreamInterface). has_out ss number) same
-
-pub are_placed_in : (streams streams' : List StreamInterface) (marks : List Mark) (b : Bool) → streams ≡ streams'
-    → b ≡ list_all (λ mark. names_stream streams (phrase_mark mark)) marks → b ≡ list_all (names_stream streams') (map phrase_mark marks)
-are_placed_in streams streams' marks b same e = e ∙ placed streams marks ∙ ap (λ (ss : List StreamInterface). list_all (names_stream ss) (map phrase_mark marks)) same
+pub are_placed_in : (function function' : FunctionFields) (marks : List Mark) (b : Bool) → function ≡ function'
+    → b ≡ list_all (λ mark. names_stream function (phrase_mark mark)) marks → b ≡ list_all (names_stream function') (map phrase_mark marks)
+are_placed_in function function' marks b same e =
+    e ∙ placed function marks ∙ ap (λ (f : FunctionFields). list_all (names_stream f) (map phrase_mark marks)) same
 
 pub are_frames_in : (function function' : FunctionFields) (number count : ℕ) (b : Bool) → function ≡ function' → b ≡ are_frames function number count
     → b ≡ are_frames function' number count

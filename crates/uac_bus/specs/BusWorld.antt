@@ -119,18 +119,18 @@ step_running r (set_line name value) =
 step_running r (show_line name) = on_element (element_named r name) (λ x. step_telling (show_element x r))
 step_running r (break_line after) = silently (running (with_break after r))
 step_running r (append_line number samples) =
-    unless (has_out r.device.function.streams (natural_of_int number)) 6
+    unless (has_out r.device.function (natural_of_int number)) 6
     (unless (are_frames r.device.function (natural_of_int number) (length samples)) 7
     (silently (running (with_samples_on (natural_of_int number) samples r))))
 step_running r (track_line number tone) =
-    unless (has_out r.device.function.streams (natural_of_int number)) 6
+    unless (has_out r.device.function (natural_of_int number)) 6
     (silently (running (with_track (natural_of_int number) (tone_of tone) r)))
 step_running r (jack_line terminal tone) =
     unless (has_jack r (natural_of_int terminal)) 6 (silently (running (with_jack_tone (natural_of_int terminal) (tone_of tone) r)))
 step_running r (deviate_line domain ppm) =
     unless (has_domain r (natural_of_int domain)) 6 (silently (running (with_deviation (natural_of_int domain) ppm r)))
 step_running r (microframes_line count marks) =
-    unless (list_all (names_stream r.device.function.streams) marks) 6 (step_telling (microframes marks (natural_of_int count) r))
+    unless (list_all (names_stream r.device.function) marks) 6 (step_telling (microframes marks (natural_of_int count) r))
 step_running r (detail_line level) = silently (running (with_detail (natural_of_int level) r))
 step_running r report_line = done (running r) (report_lines r)
 

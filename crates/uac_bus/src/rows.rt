@@ -19,7 +19,6 @@ use uac_edges::Sink;
 use uac_pcm::Tone;
 use uac_running::{Running, all_name_streams, are_frames, has_out};
 use uac_script::{LentLine, Mark};
-use uac_topology::laws::{functions_are_sound, interfaces_are_numbered};
 use uac_units::{Meter, Meters, Rack, Unit};
 
 /// Samples for a track.
@@ -31,9 +30,7 @@ fn append(running: &mut Running, interface: u8, samples: &[i32]) -> Result<(), B
     ensures script { IfErr result (λ fault. is_final fault ≡ false → running.new ≡ running.old) }
 {
     let function = running.function();
-    interfaces_are_numbered();
-    functions_are_sound(function);
-    if !has_out(function.streams(), interface) {
+    if !has_out(function, interface) {
         return Err(BusFault::Script(6));
     }
     if !are_frames(function, interface, samples.len()) {
@@ -51,7 +48,7 @@ fn track(running: &mut Running, interface: u8, tone: Tone) -> Result<(), BusFaul
     ensures rule { IfErr result (λ fault. is_final fault ≡ false) }
     ensures unchanged { OnErr result (running.new ≡ running.old) }
 {
-    if !has_out(running.function().streams(), interface) {
+    if !has_out(running.function(), interface) {
         return Err(BusFault::Script(6));
     }
     running.track(interface, tone);
@@ -112,7 +109,7 @@ fn run<K: Sink>(
     ensures never_falls { K.faults sink.old ≤ K.faults sink.new }
     ensures faultless { OnOk result (K.faults sink.new ≡ K.faults sink.old) }
 {
-    if !all_name_streams(running.function().streams(), marks) {
+    if !all_name_streams(running.function(), marks) {
         return Err(BusFault::Script(6));
     }
     running.microframes(count, marks, rack, meters, sink)?;

@@ -96,11 +96,13 @@ module _ (function : FunctionFields) (streams : function.streams ≡ the_stream 
   pub has_one : HasOne function 0
   has_one = record { among = known_among function 1 the_stream small found; placed = placed; eight = eight }
 
-  pub has_its_out : has_out function.streams 1 ≡ true
-  has_its_out = ap (λ (ss : List StreamInterface). has_out ss 1) streams
+  pub has_its_out : has_out function 1 ≡ true
+  has_its_out = ap (λ (ss : List StreamInterface). has_out (record function { streams = ss }) 1) streams
 
-  pub unreported_placed : list_all (names_stream function.streams) (no_report ∷ []) ≡ true
-  unreported_placed = ap (λ (ss : List StreamInterface). list_all (names_stream ss) (no_report ∷ [])) streams
+  pub unreported_placed : list_all (names_stream function) (no_report ∷ []) ≡ true
+  unreported_placed =
+      ap (λ (ss : List StreamInterface). list_all (names_stream (record function { streams = ss })) (no_report ∷ [])) streams
 
-  pub unpacked_placed : list_all (names_stream function.streams) (no_packet ∷ []) ≡ true
-  unpacked_placed = ap (λ (ss : List StreamInterface). list_all (names_stream ss) (no_packet ∷ [])) streams
+  pub unpacked_placed : list_all (names_stream function) (no_packet ∷ []) ≡ true
+  unpacked_placed =
+      ap (λ (ss : List StreamInterface). list_all (names_stream (record function { streams = ss })) (no_packet ∷ [])) streams

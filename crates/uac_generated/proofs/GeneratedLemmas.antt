@@ -60,12 +60,12 @@ module _ (function : FunctionFields) (streams : function.streams ≡ the_stream 
   AfterEights eights = Plays (0 + 8 * eights) ((0 + 8 * eights) / 8)
 
   module _ (r : RunningWorld) (same : r.device.function ≡ function) where
-    runs_is : (count : ℕ) (marks : List PhraseMark) → list_all (names_stream function.streams) marks ≡ true
+    runs_is : (count : ℕ) (marks : List PhraseMark) → list_all (names_stream function) marks ≡ true
         → step (microframes_line (pos count) marks) (running r) ≡ done (running (microframes marks count r).world) (microframes marks count r).lines
     unfolding step
     runs_is count marks placed =
-        unless_holds (list_all (names_stream r.device.function.streams) marks) 6 (step_telling (microframes marks count r))
-        (ap (λ (f : FunctionFields). list_all (names_stream f.streams) marks) same ∙ placed)
+        unless_holds (list_all (names_stream r.device.function) marks) 6 (step_telling (microframes marks count r))
+        (ap (λ (f : FunctionFields). list_all (names_stream f) marks) same ∙ placed)
 
     deviates_is : (ppm : ℤ) → step (deviate_line (pos 1) ppm) (running r) ≡ done (running (with_deviation 1 ppm r)) []
     unfolding step
@@ -76,8 +76,8 @@ module _ (function : FunctionFields) (streams : function.streams ≡ the_stream 
     tracks_is : (number : ℕ) → step (track_line (pos 1) (noise_tone (pos number))) (running r) ≡ done (running (with_track 1 (Noise number) r)) []
     unfolding step
     tracks_is number =
-        unless_holds (has_out r.device.function.streams 1) 6 (silently (running (with_track 1 (Noise number) r)))
-        (ap (λ (f : FunctionFields). has_out f.streams 1) same ∙ has_its_out function streams)
+        unless_holds (has_out r.device.function 1) 6 (silently (running (with_track 1 (Noise number) r)))
+        (ap (λ (f : FunctionFields). has_out f 1) same ∙ has_its_out function streams)
 
   of_playing : (passed most : ℕ) (r : RunningWorld) → Plays passed most r → r.device.function ≡ function
   of_playing passed most r is = is.beats.plays.function_is

@@ -81,7 +81,7 @@ pub fn settings_stay_valid()
 {}
 
 /// In the map of an interface's valid settings bit i is set exactly where the interface has setting i and it is valid, and
-/// so it is in the map's bytes, as far as they go (Audio Class 2.0, 5.2.6.1.2).
+/// so it is in the map's bytes, as far as they go (Audio Class 2.0, 5.2.6).
 #[tactic(auto, using(crate::proofs::RequestsMapLemmas::bit_by_bit, crate::proofs::RequestsMapLemmas::bytes_bit_by_bit))]
 pub fn settings_map_is_bit_by_bit()
     ensures sum { (function : FunctionFields) (controls : List (Key × ℤ)) (interface : ℕ) (s : StreamInterface) (i : ℕ)

@@ -1,10 +1,10 @@
 -- What a line of the script names: jacks, domains, streams, and the packets and reports of these (profile).
-use Rattle.std.specs.Prelude.{ℕ, ◌%◌, ◌==◌, ◌&&◌, not, Bool, false, ℤ, pos, negsuc, List}
-use Rattle.std.specs.List.{list_any, find}
+use Rattle.std.specs.Prelude.{ℕ, ◌%◌, ◌==◌, ◌&&◌, not, Bool, false, ℤ, pos, negsuc}
+use Rattle.std.specs.List.{list_any}
 use Rattle.std.specs.Option.{option_map_or}
+use Rattle.uac_entities.specs.EntityInterfaces.{channels_of}
 use Rattle.uac_entities.specs.declared.stream.StreamInterface.{StreamInterface}
-use Rattle.uac_topology.specs.Function.{FunctionFields}
-use Rattle.uac_graph.specs.Meaning.{entity}
+use Rattle.uac_topology.specs.Function.{FunctionFields, interface_in}
 use Rattle.uac_script.specs.declared.line.MarkKind.{MarkKind}
 use Rattle.uac_script.specs.declared.line.MarkKind.TheVariants.{Out, In, Feedback}
 use Rattle.uac_script.specs.Phrase.{PhraseMark}
@@ -24,30 +24,30 @@ abbrev pub has_domain : RunningWorld → ℕ → Bool
 has_domain r domain = list_any (λ d. d == domain) r.device.function.domains
 
 -- the interface carries a stream to the device, or one from it, and links to a terminal
-abbrev pub is_out : ℕ → StreamInterface → Bool
-is_out number s = s.number == number && (s.out && not (s.terminal == 0))
+abbrev pub carries_out : StreamInterface → Bool
+carries_out s = s.out && not (s.terminal == 0)
 
-abbrev pub is_in : ℕ → StreamInterface → Bool
-is_in number s = s.number == number && (not s.out && not (s.terminal == 0))
+abbrev pub carries_in : StreamInterface → Bool
+carries_in s = not s.out && not (s.terminal == 0)
 
--- one of these streaming interfaces is such an interface
-abbrev pub has_out : List StreamInterface → ℕ → Bool
-has_out streams number = list_any (is_out number) streams
+-- the interface with this number is such an interface
+abbrev pub has_out : FunctionFields → ℕ → Bool
+has_out function number = option_map_or carries_out (interface_in function number) false
 
-abbrev pub has_in : List StreamInterface → ℕ → Bool
-has_in streams number = list_any (is_in number) streams
+abbrev pub has_in : FunctionFields → ℕ → Bool
+has_in function number = option_map_or carries_in (interface_in function number) false
 
--- one of them has such packets or reports: to the device and feedback where it carries a stream to the device
-abbrev pub has_marked : List StreamInterface → MarkKind → ℕ → Bool
-has_marked streams Out number = has_out streams number
-has_marked streams In number = has_in streams number
-has_marked streams Feedback number = has_out streams number
+-- it has such packets or reports: to the device and feedback where it carries a stream to the device
+abbrev pub has_marked : FunctionFields → MarkKind → ℕ → Bool
+has_marked function Out number = has_out function number
+has_marked function In number = has_in function number
+has_marked function Feedback number = has_out function number
 
--- a mark names one of them that has such packets or reports
-abbrev pub names_stream : List StreamInterface → PhraseMark → Bool
-names_stream streams mark = has_marked streams mark.kind (natural_of_int mark.interface)
+-- a mark names an interface that has such packets or reports
+abbrev pub names_stream : FunctionFields → PhraseMark → Bool
+names_stream function mark = has_marked function mark.kind (natural_of_int mark.interface)
 
--- the samples are whole frames of the channels of the terminal to which the interface links
+-- the interface with this number carries a stream to the device, and so many samples are whole frames of its terminal's channels
 unfoldable pub are_frames : FunctionFields → ℕ → ℕ → Bool
 are_frames function number count =
-    option_map_or (λ s. count % (entity function.entities s.terminal).cluster.channels == 0) (find (is_out number) function.streams) false
+    option_map_or (λ s. carries_out s && count % channels_of function.entities s.terminal == 0) (interface_in function number) false

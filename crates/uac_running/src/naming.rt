@@ -1,7 +1,6 @@
 // What a line of the script names: jacks, domains, streams, and the packets and reports of these.
 ghost use Rattle.std.specs.Prelude.{◌≡◌, ◌==◌, ◌%◌, List};
-ghost use Rattle.std.specs.List.{list_all, list_any, find};
-ghost use Rattle.std.specs.Option.{option_map};
+ghost use Rattle.std.specs.List.{list_all, list_any};
 ghost use Rattle.uac_script.specs.Line.{phrase_mark};
 ghost use Rattle.uac_units.specs.Hearing.{Reading};
 ghost use Rattle.uac_running.specs.RunningKept.{RunningStandsBetween};
@@ -36,69 +35,67 @@ fn has_jack(jacks: &[Jack], terminal: u8) -> bool
     jacks.iter().any(|jack| jack.terminal == terminal)
 }
 
-/// Whether the interface carries a stream to the device.
-fn is_out(stream: &StreamInterface, number: u8) -> bool
-    ensures { result ≡ spec.is_out number stream.now }
+/// Whether the interface carries a stream to the device, and links to a terminal.
+fn carries_out(stream: &StreamInterface) -> bool
+    ensures { result ≡ spec.carries_out stream.now }
 {
-    stream.number == number && stream.out && stream.terminal != 0
+    stream.out && stream.terminal != 0
 }
 
-/// Whether the interface carries a stream from the device.
-fn is_in(stream: &StreamInterface, number: u8) -> bool
-    ensures { result ≡ spec.is_in number stream.now }
+/// Whether the interface carries a stream from the device, and links to a terminal.
+fn carries_in(stream: &StreamInterface) -> bool
+    ensures { result ≡ spec.carries_in stream.now }
 {
-    stream.number == number && !stream.out && stream.terminal != 0
+    !stream.out && stream.terminal != 0
 }
 
-/// Whether an interface of this number carries a stream to the device.
-pub fn has_out(streams: &[StreamInterface], number: u8) -> bool
-    ensures { result ≡ spec.has_out streams.now number }
+/// Whether the interface of this number carries a stream to the device.
+pub fn has_out(function: &Function, number: u8) -> bool
+    ensures { result ≡ spec.has_out function.now number }
 {
-    streams.iter().any(|stream| is_out(stream, number))
+    match function.interface(number) {
+        Some(stream) => carries_out(stream),
+        None => false,
+    }
 }
 
-/// Whether an interface of this number carries a stream from the device.
-fn has_in(streams: &[StreamInterface], number: u8) -> bool
-    ensures { result ≡ spec.has_in streams.now number }
+/// Whether the interface of this number carries a stream from the device.
+fn has_in(function: &Function, number: u8) -> bool
+    ensures { result ≡ spec.has_in function.now number }
 {
-    streams.iter().any(|stream| is_in(stream, number))
+    match function.interface(number) {
+        Some(stream) => carries_in(stream),
+        None => false,
+    }
 }
 
 /// Whether a mark names an interface that has such packets or reports.
-fn names_stream(streams: &[StreamInterface], mark: &Mark) -> bool
-    ensures { result ≡ spec.names_stream streams.now (phrase_mark mark.now) }
+fn names_stream(function: &Function, mark: &Mark) -> bool
+    ensures { result ≡ spec.names_stream function.now (phrase_mark mark.now) }
 {
     match mark.kind {
-        MarkKind::Out => has_out(streams, mark.interface),
-        MarkKind::In => has_in(streams, mark.interface),
-        MarkKind::Feedback => has_out(streams, mark.interface),
+        MarkKind::Out => has_out(function, mark.interface),
+        MarkKind::In => has_in(function, mark.interface),
+        MarkKind::Feedback => has_out(function, mark.interface),
     }
 }
 
 /// Whether each mark does.
-pub fn all_name_streams(streams: &[StreamInterface], marks: &[Mark]) -> bool
-    ensures { result ≡ list_all (λ mark. spec.names_stream streams.now (phrase_mark mark)) marks.now }
+pub fn all_name_streams(function: &Function, marks: &[Mark]) -> bool
+    ensures { result ≡ list_all (λ mark. spec.names_stream function.now (phrase_mark mark)) marks.now }
 {
-    marks.iter().all(|mark| names_stream(streams, mark))
+    marks.iter().all(|mark| names_stream(function, mark))
 }
 
-/// The terminal of the interface of this number that carries a stream to the device.
-fn out_terminal(streams: &[StreamInterface], number: u8) -> Option<u8>
-    ensures { result ≡ option_map (λ s. s.terminal) (find (spec.is_out number) streams.now) }
-{
-    match streams.iter().find(|stream| is_out(stream, number)) {
-        Some(stream) => Some(stream.terminal),
-        None => None,
-    }
-}
-
-/// Whether so many samples are whole frames of the interface that carries a stream to the device.
-#[tactic(auto, unfolding(crate::specs::RunningNames::are_frames, uac_graph::specs::Meaning::entity))]
+/// Whether the interface of this number carries a stream to the device, and so many samples are whole frames of it.
+#[tactic(auto, unfolding(crate::specs::RunningNames::are_frames))]
 pub fn are_frames(function: &Function, number: u8, count: usize) -> bool
     ensures { result ≡ spec.are_frames function.now number count }
 {
-    match out_terminal(function.streams(), number) {
-        Some(terminal) => are_whole(count, function.channels_of(terminal)),
+    match function.interface(number) {
+        Some(stream) => {
+            carries_out(stream) && are_whole(count, function.channels_of(stream.terminal))
+        }
         None => false,
     }
 }

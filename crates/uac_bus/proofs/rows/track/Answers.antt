@@ -4,12 +4,12 @@ use Rattle.uac_pcm.specs.declared.tones.Tone.{Tone}
 use Rattle.uac_running.specs.RunningWorld.{with_track}
 use Rattle.uac_running.specs.RunningKept.{RunningStandsBetween}
 use Rattle.uac_bus.proofs.BusWorldLemmas.{tone_back}
-use Rattle.uac_bus.proofs.BusRowsLemmas.{unless_reached, streams_in, has_out_in}
+use Rattle.uac_bus.proofs.BusRowsLemmas.{unless_reached, has_out_in}
 use Rattle.uac_bus.proofs.rows.track.Goals as goal
 
 pub returns-clause-does : goal.returns-clause-does
 returns-clause-does c = λ shown r written s.
-    let out = has_out_in _ _ c.args.interface _ (streams_in r _ shown _ _ s c.function.ensures c.streams.ensures) c.has_out.ensures in
+    let out = has_out_in _ _ c.args.interface _ (c.function.ensures ∙ s.now.streaming.device.function) c.has_out.ensures in
     let stands =
     subst (λ (tone : Tone). RunningStandsBetween c.track.new.self shown (with_track c.args.interface tone r)) (sym (tone_back c.args.tone))
     (c.track.ensures.stands shown r s)
