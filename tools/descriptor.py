@@ -111,11 +111,16 @@ def cut(data):
         if kind == "interface" and len(piece) == 9:
             code = (block["class"], block["subclass"], block["protocol"])
             context = {(1, 1, 0x20): "control", (1, 2, 0x20): "stream"}.get(code, "foreign")
-        elif kind == "association" and not (block["class"] == 1 and block["protocol"] == 0x20):
+        elif kind == "association" and not is_of_audio(block):
             context = "foreign"
         blocks.append(block)
         place += len(piece)
     return blocks, data[place:]
+
+
+def is_of_audio(block):
+    """Whether an association is one of version 2.0 of the audio class."""
+    return block["class"] == 1 and block["protocol"] == 0x20
 
 
 def is_streaming(block):
