@@ -90,7 +90,9 @@ IsWriteCut (refused fault) written written' = ⊥
 abbrev pub Prevents : BusFault → Bool → Step → Option (List ℕ) → Option (List ℕ) → Type 0
 Prevents faults.WriteFault memory s written written' = IsWriteCut s written written'
 Prevents faults.NoMemory memory s written written' = memory ≡ true
-Prevents fault memory s written written' = s ≡ refused fault
+Prevents (faults.Script rule) memory s written written' = s ≡ refused (faults.Script rule)
+Prevents (faults.Grammar fault) memory s written written' = s ≡ refused (faults.Grammar fault)
+Prevents (faults.Topology fault) memory s written written' = s ≡ refused (faults.Topology fault)
 
 -- what a step is answered, and what it leaves
 abbrev pub Does : Step → Bool → (BusWorld → Type 0) → Option (List ℕ) → Option (List ℕ) → Result (Unit {0}) BusFault → Type 0
