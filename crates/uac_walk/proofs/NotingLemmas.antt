@@ -1,7 +1,7 @@
 -- The steps that note who names whom.
-use Rattle.std.proofs.Common.{◌≡◌, ℕ, ◌+◌, ◌<◌, eqb, List, [], ◌∷◌, ◌++◌, length, get_or, take, set, inl, inr, sym, ap, ◌∙◌, arith}
+use Rattle.std.proofs.Common.{◌≡◌, ℕ, ◌+◌, ◌<◌, eqb, List, [], ◌∷◌, ◌++◌, length, get_or, map, take, set, inl, inr, sym, ap, ◌∙◌, arith}
 use Rattle.std.proofs.lemmas.Bool.{cases_eq, eq-eqb, ne_eqb}
-use Rattle.std.proofs.lemmas.List.{length-set, get_or-set_same, get_or-set_other, take_more}
+use Rattle.std.proofs.lemmas.List.{length-map, length-set, get_or-map, get_or-set_same, get_or-set_other, take_more}
 use Rattle.uac_walk.specs.Walk.{links}
 use Rattle.uac_walk.specs.Count.{times}
 use Rattle.uac_walk.specs.Noting.{IsNoted, IsNamedBy}
@@ -37,12 +37,13 @@ noted_more node named old new j more below in' e h =
     }
 
 -- before any node is asked, none is noted
-pub named_none : (graph namers : List (List ℕ)) → length namers ≡ length graph → ((u : ℕ) → u < length graph → links namers u ≡ []) → IsNamedBy graph 0 namers
-named_none graph namers sized empty =
+pub named_none : (graph namers : List (List ℕ)) → namers ≡ map (λ (named : List ℕ). []) graph → IsNamedBy graph 0 namers
+named_none graph namers is =
+    let none_of : List ℕ → List ℕ = λ named. [] in
     record {
-      sized = sized;
+      sized = ap length is ∙ length-map graph none_of;
       named = λ u v b below. absurd (omega arith);
-      none = λ u v b past. ap (times v) (empty u b);
+      none = λ u v b past. ap (times v) (ap (λ (all : List (List ℕ)). links all u) is ∙ get_or-map none_of graph u [] [] b);
     }
 
 -- one more node has said whom it names

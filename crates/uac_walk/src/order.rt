@@ -47,14 +47,18 @@ fn namers_of(alloc: Global, graph: &[Links]) -> Result<Vec<Links>, AllocError>
     requires { IsClosed graph.now }
     ensures { IfOk result (λ namers. IsNamedBy graph.now (length graph.now) namers.items) }
 {
-    let mut namers = Vec::new(alloc);
-    for _each in graph {
-        namers.push(Links::new(alloc))?;
-    }
+    let mut namers = no_namers(alloc, graph)?;
     for (node, links) in graph.iter().enumerate() {
         note(node, links.as_slice(), &mut namers)?;
     }
     Ok(namers)
+}
+
+// For each node no node that names it yet.
+fn no_namers(alloc: Global, graph: &[Links]) -> Result<Vec<Links>, AllocError>
+    ensures { IfOk result (λ namers. namers.items ≡ map (λ named. []) graph.now) }
+{
+    graph.iter().map(|_links| Links::new(alloc)).collect(alloc)
 }
 
 // Notes at each of the named nodes that this one names it.

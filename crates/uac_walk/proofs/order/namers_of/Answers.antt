@@ -4,8 +4,7 @@ use Rattle.uac_walk.proofs.NotingLemmas.{named_none, named_more}
 use Rattle.uac_walk.proofs.order.namers_of.Goals as goal
 
 pub loop-node-init : goal.loop-node-init
-loop-node-init c =
-    named_none c.args.graph.now c.loop-each.namers.items (omega (arith, c.loop-each.invariant.0)) (λ u below. c.loop-each.invariant.1 u)
+loop-node-init c = named_none c.args.graph.now c.in_ok-namers.namers.items c.in_ok-namers.ensures
 
 pub note-requires : goal.note-requires
 note-requires c =
