@@ -10,7 +10,7 @@ use Rattle.uac_sentence.specs.declared.stages.OrderStage.{OrderStage}
 use Rattle.uac_sentence.specs.declared.stages.OrderStage.TheVariants.{Start, Due, Opening, Before, Announced, Headless, Listing, Quiet, Setting, Formats, Formatted, FirstEndpoint, FirstDone, SecondEndpoint, Closing, ForeignAfter}
 use Rattle.uac_sentence.specs.declared.states.State.{State}
 use Rattle.uac_sentence.specs.Letter.{letter_of, is_listed}
-use Rattle.uac_sentence.specs.Steps.{next_stage, may_end, is_before_association}
+use Rattle.uac_sentence.specs.OrderStages.{next_stage, may_end, is_before_association}
 use Rattle.uac_sentence.specs.Grammar.{start, state_after, stage_after, is_due, is_announced, is_headless, is_listing, is_past_control, lacks_association, lists_unknown, comes_again, is_audio_interface, is_control, is_unknown, is_association}
 use Rattle.uac_sentence.specs.Progress.{state_following, BreakNone, HasRead}
 use Rattle.uac_sentence.specs.Earlier.{is_same, has, latest_is, is_header_list, is_in_list, is_unknown_in_list, stands_without_association, is_second}

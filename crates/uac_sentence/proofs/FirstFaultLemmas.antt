@@ -17,7 +17,7 @@ use Rattle.uac_sentence.specs.declared.states.State.{State}
 use Rattle.uac_sentence.specs.Cutting.{IsPiece, begins_whole, chop}
 use Rattle.uac_sentence.specs.Fault.{GrammarFault, at_place, rest_rule, faults_over, faults_from}
 use Rattle.uac_sentence.specs.Letter.{letter_of, is_listed}
-use Rattle.uac_sentence.specs.Steps.{next_stage, may_end}
+use Rattle.uac_sentence.specs.OrderStages.{next_stage, may_end}
 use Rattle.uac_sentence.specs.Values.{HasValues, has_wrong_value}
 use Rattle.uac_sentence.specs.Grammar.{grammar, start, state_after, state_read, rule_read, rule_broken, rule_at_end, first_fault, end_after, ends_before, ends_after, listing_after, list_end, passes_total, passes_list, ends_list_early, is_out_of_order, is_refused, lacks_association, lists_unknown, comes_again, least, is_due, is_headless}
 use Rattle.uac_sentence.specs.Sentence.{EachIn, SpellsItself, spellings, size}

@@ -12,12 +12,12 @@ use Rattle.uac_sentence.specs.declared.stages.OrderStage.{OrderStage}
 use Rattle.uac_sentence.specs.declared.stages.OrderStage.TheVariants.{Start, Due, Opening, Before, Announced, Headless, Listing}
 use Rattle.uac_sentence.specs.declared.states.State.{State}
 use Rattle.uac_sentence.specs.Letter.{letter_of, interface_letter}
-use Rattle.uac_sentence.specs.Steps.{next_stage}
+use Rattle.uac_sentence.specs.OrderStages.{next_stage}
 use Rattle.uac_sentence.specs.Grammar.{start, state_after, is_in_turn, is_refused}
 use Rattle.uac_sentence.specs.Sentence.{spellings, interface_of, Begins, Continues, InTurn}
 use Rattle.uac_sentence.specs.Progress.{state_following, BreakNone, HasRead}
 use Rattle.uac_sentence.specs.FirstFault.{MayBegin}
-use Rattle.uac_sentence.proofs.StepsLemmas.{Goes, goes_allows, allows_goes}
+use Rattle.uac_sentence.proofs.OrderStagesLemmas.{Goes, goes_allows, allows_goes}
 use Rattle.uac_sentence.proofs.GrammarLemmas.{bytes_in, broken_passes, step_there, TurnRun}
 use Rattle.uac_sentence.proofs.SentenceTurnLemmas.{HasSmallNumbers, IsUsed, latest_of, flags_after, turn_of, of_turn, at_start, in_turn}
 use Rattle.uac_sentence.proofs.SentenceLemmas.{small_numbers}

@@ -12,11 +12,11 @@ use Rattle.uac_sentence.specs.declared.states.Latest.{Latest}
 use Rattle.uac_sentence.specs.declared.states.Listing as listing
 use Rattle.uac_sentence.specs.declared.states.State.{State}
 use Rattle.uac_sentence.specs.Letter.{letter_of, is_listed}
-use Rattle.uac_sentence.specs.Steps.{next_stage, may_end}
+use Rattle.uac_sentence.specs.OrderStages.{next_stage, may_end}
 use Rattle.uac_sentence.specs.Values.{has_wrong_value}
 use Rattle.uac_sentence.specs.Grammar.{end_after, ends_before, ends_after, listing_after, list_end, used_after, latest_after, is_in_turn, stage_after, state_after, passes_total, passes_list, ends_list_early, lacks_association, lists_unknown, comes_again, is_refused, is_out_of_order, least, rule_broken, is_due, is_headless, rule_at_end}
 use Rattle.uac_sentence.specs.Sentence.{EachIn}
-use Rattle.uac_sentence.proofs.StepsLemmas.{Goes}
+use Rattle.uac_sentence.proofs.OrderStagesLemmas.{Goes}
 
 -- the number of a block's bytes
 abbrev pub bytes_in : block.Block → ℕ

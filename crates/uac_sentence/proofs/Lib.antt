@@ -1,6 +1,6 @@
 -- The laws of the grammar.
 pub mod ProductionLemmas
-pub mod StepsLemmas
+pub mod OrderStagesLemmas
 pub mod CuttingLemmas
 pub mod FaultLemmas
 pub mod Examples

@@ -13,7 +13,7 @@ use Rattle.uac_sentence.specs.declared.states.State.{State}
 use Rattle.uac_sentence.specs.declared.states.TheConstants.{FURTHEST}
 use Rattle.uac_descriptor.specs.Classes.{is_audio_association, is_control_interface, is_streaming_interface}
 use Rattle.uac_sentence.specs.Letter.{letter_of, whole_letter, interface_letter, is_device, has_unknown_subtype, is_ordered_type, type_of}
-use Rattle.uac_sentence.specs.Steps.{next_stage}
+use Rattle.uac_sentence.specs.OrderStages.{next_stage}
 use Rattle.uac_sentence.specs.Grammar.{start, state_after, stage_after, end_after, ends_before}
 use Rattle.uac_sentence.specs.Sentence.{spellings, size}
 use Rattle.uac_sentence.specs.Progress.{state_following, BreakNone, HasRead}

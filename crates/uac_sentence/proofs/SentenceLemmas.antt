@@ -22,7 +22,7 @@ use Rattle.uac_sentence.specs.Values.{HasValues}
 use Rattle.uac_sentence.specs.Sentence.{EachIn, SpellsItself, spellings, IsSentence}
 use Rattle.uac_sentence.proofs.CuttingLemmas.{chop_is_cut}
 use Rattle.uac_sentence.proofs.FaultLemmas.{faults_from_piece, faults_from_rest}
-use Rattle.uac_sentence.proofs.StepsLemmas.{goes_allows, allows_goes}
+use Rattle.uac_sentence.proofs.OrderStagesLemmas.{goes_allows, allows_goes}
 use Rattle.uac_sentence.proofs.GrammarLemmas.{bytes_in, Clear, HasNoWrongValue, clear_parts, parts_clear}
 use Rattle.uac_sentence.proofs.ValuesLemmas.{EachIn-weaker, right_values, no_wrong_value}
 use Rattle.uac_sentence.proofs.SentenceListLemmas.{listed_entities}

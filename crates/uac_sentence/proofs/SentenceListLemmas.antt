@@ -15,9 +15,9 @@ use Rattle.uac_sentence.specs.declared.stages.OrderStage.{OrderStage}
 use Rattle.uac_sentence.specs.declared.stages.OrderStage.TheVariants.{Start, Due, Opening, Before, Announced, Headless, Listing, Quiet, Setting, Formats, Formatted, FirstEndpoint, FirstDone, SecondEndpoint, Closing, ForeignAfter}
 use Rattle.uac_descriptor.specs.Classes.{is_audio_association, is_control_interface, is_streaming_interface}
 use Rattle.uac_sentence.specs.Letter.{letter_of, whole_letter, interface_letter, interface_context, context_after, is_device, has_unknown_subtype, is_ordered_type, type_of, is_listed}
-use Rattle.uac_sentence.specs.Steps.{next_stage}
+use Rattle.uac_sentence.specs.OrderStages.{next_stage}
 use Rattle.uac_sentence.specs.Sentence.{EachIn, SpellsItself, size, is_entity, HasListTotal}
-use Rattle.uac_sentence.proofs.StepsLemmas.{Goes}
+use Rattle.uac_sentence.proofs.OrderStagesLemmas.{Goes}
 
 -- the total of the header, where other blocks may be listed too
 abbrev pub ListedTotal : List block.Block → Type 0

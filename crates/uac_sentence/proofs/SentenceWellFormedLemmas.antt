@@ -19,9 +19,9 @@ use Rattle.uac_sentence.specs.Grammar.{is_control, is_audio_interface, is_in_tur
 use Rattle.uac_sentence.specs.Letter.{letter_of, whole_letter, interface_letter, is_device, has_unknown_subtype, is_ordered_type, type_of}
 use Rattle.uac_sentence.specs.Sentence.{HasSmallNumbers, IsSentence}
 use Rattle.uac_sentence.specs.declared.states.Latest.{Latest}
-use Rattle.uac_sentence.specs.Steps.{next_stage, may_end}
+use Rattle.uac_sentence.specs.OrderStages.{next_stage, may_end}
 use Rattle.uac_sentence.specs.Values.{HasValues, has_wrong_value}
-use Rattle.uac_sentence.proofs.StepsLemmas.{Goes, allows_goes}
+use Rattle.uac_sentence.proofs.OrderStagesLemmas.{Goes, allows_goes}
 pub use Rattle.uac_sentence.proofs.SentenceTurnLemmas.{IsTurning}
 use Rattle.uac_sentence.proofs.SentenceTurnLemmas.{turning_step, turning_stops, turning_ends}
 use Rattle.uac_sentence.proofs.ValuesLemmas.{EachIn-weaker, right_values, no_wrong_value}

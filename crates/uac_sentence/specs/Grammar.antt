@@ -18,7 +18,7 @@ use Rattle.uac_sentence.specs.declared.states.State.{State}
 use Rattle.uac_descriptor.specs.Classes.{is_control_interface, is_streaming_interface}
 use Rattle.uac_descriptor.specs.BlockTurns.{interface_of}
 use Rattle.uac_sentence.specs.Letter.{letter_of, context_after, is_listed}
-use Rattle.uac_sentence.specs.Steps.{next_stage, may_end, is_before_association}
+use Rattle.uac_sentence.specs.OrderStages.{next_stage, may_end, is_before_association}
 use Rattle.uac_sentence.specs.Values.{has_wrong_value}
 use Rattle.uac_sentence.specs.Fault.{GrammarFault, Rules, faults_from}
 

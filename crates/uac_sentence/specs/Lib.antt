@@ -3,7 +3,7 @@
 pub mod Production
 pub mod Letter
 pub mod BlockOrder
-pub mod Steps
+pub mod OrderStages
 pub mod Values
 pub mod Cutting
 pub mod Fault

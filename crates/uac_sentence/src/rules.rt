@@ -1,6 +1,6 @@
 // The rules G5 to G9, each by itself, and the least one that is broken.
 ghost use Rattle.std.specs.Prelude.{◌≡◌, ◌≤◌};
-ghost use Rattle.uac_sentence.specs.Steps.{is_before_association, may_end};
+ghost use Rattle.uac_sentence.specs.OrderStages.{is_before_association, may_end};
 ghost use Rattle.uac_sentence.specs.Grammar.{
   comes_again,
   ends_before,

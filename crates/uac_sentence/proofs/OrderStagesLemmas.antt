@@ -2,7 +2,7 @@
 use Rattle.std.proofs.Common.{◌≡◌, Option, Some, None, List, [], ◌∷◌, IsTrue, refl, sym, ap, ◌∙◌, subst}
 use Rattle.uac_sentence.specs.Production.{Production, nothing, one, then', either, many, option, Allows}
 use Rattle.uac_sentence.specs.BlockOrder.{a, stays_in_part, others, foreign, control, formats, endpoint, stream, input}
-use Rattle.uac_sentence.specs.Steps.{next_stage, may_end}
+use Rattle.uac_sentence.specs.OrderStages.{next_stage, may_end}
 use Rattle.uac_sentence.specs.declared.letters.Letter.{Letter}
 use Rattle.uac_sentence.specs.declared.letters.Letter.TheVariants.{Device, Configuration, AudioAssociation, Endpoint, Header, Entity, General, TypeOne, Extra, ClassEndpoint}
 use Rattle.uac_sentence.specs.declared.stages.OrderStage.{OrderStage}
