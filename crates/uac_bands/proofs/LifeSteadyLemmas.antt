@@ -8,7 +8,7 @@ use Rattle.uac_clock.proofs.NominalLemmas.{has_room}
 use Rattle.uac_rate.specs.Levels.{AreIntervals, IsSafeLevel, IsInterval, IsRobust, Point, TakesReport, Within, lost_after, value_after}
 use Rattle.uac_rate.specs.Reports.{report_of}
 use Rattle.uac_rate.specs.Steadiness.{latest_run, one_more}
-use Rattle.uac_rate.proofs.LevelsLemmas.{interval_size, moment_held, rates_band, report_held, report_robust}
+use Rattle.uac_rate.proofs.LevelsLemmas.{interval_size, moment_level, rates_band, report_clamped, report_robust}
 use Rattle.uac_alt.specs.AltStreams.{StreamFields}
 use Rattle.uac_flow.specs.FlowStreams.{feedback_of, out_level, priming_level, reports_now}
 use Rattle.uac_host.specs.HostCalls.{within_nominal, pace_after_report}
@@ -47,8 +47,8 @@ enough values s period p gone steps came played room intervals robust within sli
     ]
   where
     held_by : (n some : ℕ) → some ≤ (p.clock + steps) / 65536 → n + some ≡ p.level + came → IsSafeLevel s n
-    held_by n some few is = moment_held values s period p n room intervals robust
-        (record { passed = gone; within = within; steps = steps; slight = slight; played = some; some_ticks = few; came = came; some_frames = some_frames; held_is = is })
+    held_by n some few is = moment_level values s period p n room intervals robust
+        (record { passed = gone; within = within; steps = steps; slight = slight; played = some; some_ticks = few; came = came; some_frames = some_frames; level_is = is })
 
 -- ---- feedback
 
@@ -245,7 +245,7 @@ value_there m true target q at = at.value
 value_there m false target q at =
     let values : Nominal = m.out.stream.nominal in
     let room = has_room values at.ended.nominal in
-    let here = report_held values target (out_level m.out) (omega (arith, room.below, room.above)) in
+    let here = report_clamped values target (out_level m.out) (omega (arith, room.below, room.above)) in
     ap (λ (t : ℕ). report_of values t q.level) at.target_is ∙ ap (report_of values target) at.level
     ∙ sym (held_stays m.out.stream (report_of values target (out_level m.out)) here.least here.most)
     ∙ sym (ap (λ (s : StreamFields). within_nominal s (report_of values target (out_level m.out))) at.ended.same)

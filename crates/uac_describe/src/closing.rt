@@ -37,7 +37,7 @@ pub fn hand_on<K: Sink>(status: Status, sink: &mut K) -> Status
     if status == Status::WriteFault {
         return status;
     }
-    match sink.settle() {
+    match sink.flush() {
         Ok(()) => status,
         Err(Failed) => Status::WriteFault,
     }

@@ -53,9 +53,9 @@ pub trait Sink {
     /// Hands on all that waits. The bytes written stay as they are, also where it fails. `Failed`
     /// comes only where the count of faults rose in this call; a call that isn't `Failed` met no
     /// fault, and then nothing waits.
-    fn settle(&mut self) -> Result<(), Failed>
+    fn flush(&mut self) -> Result<(), Failed>
         ensures kept { Keeps (written self.old) (written self.new) }
-        ensures settled { OnOk result (waiting self.new ≡ 0) }
+        ensures flushed { OnOk result (waiting self.new ≡ 0) }
         ensures cause { HasCause (faults self.old) (faults self.new) result };
 }
 

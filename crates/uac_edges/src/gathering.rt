@@ -7,7 +7,7 @@ use crate::edges::{Failed, Sink};
 use arrayvec::ArrayVec;
 
 /// A sink before another. It gathers at most 4,096 bytes, and hands them on where there is no room
-/// for more and where it is settled. It has written what the sink beneath has, and then what waits
+/// for more and where it is flushed. It has written what the sink beneath has, and then what waits
 /// here; after a fault what wasn't handed on still waits.
 #[derive(Drop)]
 pub struct Gathering<K: Sink + Drop> {
@@ -78,10 +78,10 @@ impl<K: Sink + Drop> Sink for Gathering<K> {
         }
     }
 
-    /// Hands on all that waits, and settles the sink beneath.
-    fn settle(&mut self) -> Result<(), Failed> {
+    /// Hands on all that waits, and flushes the sink beneath.
+    fn flush(&mut self) -> Result<(), Failed> {
         self.hand_on()?;
-        self.beneath.settle()
+        self.beneath.flush()
     }
 }
 

@@ -111,7 +111,7 @@ impl Sink for MemorySink {
     }
 
     /// Does nothing, since nothing waits.
-    fn settle(&mut self) -> Result<(), Failed>
+    fn flush(&mut self) -> Result<(), Failed>
         ensures ok { result ≡ Ok tt }
         ensures same { self.new ≡ self.old }
         ensures kept { Keeps (Some self.old.written) (Some self.new.written) }

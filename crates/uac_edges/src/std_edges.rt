@@ -120,7 +120,7 @@ impl<W: Write + Drop> Sink for StdSink<W> {
 
     /// Does nothing, since each write was flushed and nothing waits.
     #[tactic(auto, using(crate::proofs::StdEdgesLemmas::keeping))]
-    fn settle(&mut self) -> Result<(), Failed>
+    fn flush(&mut self) -> Result<(), Failed>
         ensures ok { result ≡ Ok tt }
         ensures same { self.new ≡ self.old }
         ensures kept { Keeps (without_last self.old.unflushed (W.contents self.old.output))

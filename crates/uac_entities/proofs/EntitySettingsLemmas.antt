@@ -61,40 +61,40 @@ cons_is_append None xs = refl
 cons_is_append (Some x) xs = refl
 
 -- one more block of the settings in turn
-pub alternates_at : (xs : List block.Block) (j : ℕ) (b : block.Block) → j < length xs → b ≡ get_or xs j b →
+pub settings_at : (xs : List block.Block) (j : ℕ) (b : block.Block) → j < length xs → b ≡ get_or xs j b →
     declared_settings (drop j xs) ≡ option_to_list (declared_setting_at b (drop (j + 1) xs)) ++ declared_settings (drop (j + 1) xs)
 unfolding declared_settings
-alternates_at xs j b below is =
+settings_at xs j b below is =
     ap declared_settings (drop_more xs j b below)
     ∙ ap (λ c. cons_option (declared_setting_at c (drop (j + 1) xs)) (declared_settings (drop (j + 1) xs))) (sym is)
     ∙ cons_is_append (declared_setting_at b (drop (j + 1) xs)) (declared_settings (drop (j + 1) xs))
 
-pub alternates_end : (xs : List block.Block) (j : ℕ) → length xs ≤ j → declared_settings (drop j xs) ≡ []
+pub settings_end : (xs : List block.Block) (j : ℕ) → length xs ≤ j → declared_settings (drop j xs) ≡ []
 unfolding declared_settings
-alternates_end xs j past = ap declared_settings (drop_all j xs past)
+settings_end xs j past = ap declared_settings (drop_all j xs past)
 
 -- no block but an interface begins a setting
-pub no_alternate : (b : block.Block) (following : List block.Block) → ((i : Interface) → b ≡ row.Interface i → ⊥) → declared_setting_at b following ≡ None
+pub no_setting : (b : block.Block) (following : List block.Block) → ((i : Interface) → b ≡ row.Interface i → ⊥) → declared_setting_at b following ≡ None
 unfolding declared_setting_at
-no_alternate (row.Interface i) following other = absurd (other i refl)
-no_alternate (row.Configuration _) following other = refl
-no_alternate (row.Association _) following other = refl
-no_alternate (row.Endpoint _) following other = refl
-no_alternate (row.Header _) following other = refl
-no_alternate (row.InputTerminal _) following other = refl
-no_alternate (row.OutputTerminal _) following other = refl
-no_alternate (row.Mixer _) following other = refl
-no_alternate (row.Selector _) following other = refl
-no_alternate (row.Feature _) following other = refl
-no_alternate (row.Effect _) following other = refl
-no_alternate (row.ClockSource _) following other = refl
-no_alternate (row.ClockSelector _) following other = refl
-no_alternate (row.ClockMultiplier _) following other = refl
-no_alternate (row.General _) following other = refl
-no_alternate (row.TypeOne _) following other = refl
-no_alternate (row.Extra _) following other = refl
-no_alternate (row.ClassEndpoint _) following other = refl
-no_alternate (row.Foreign _) following other = refl
+no_setting (row.Interface i) following other = absurd (other i refl)
+no_setting (row.Configuration _) following other = refl
+no_setting (row.Association _) following other = refl
+no_setting (row.Endpoint _) following other = refl
+no_setting (row.Header _) following other = refl
+no_setting (row.InputTerminal _) following other = refl
+no_setting (row.OutputTerminal _) following other = refl
+no_setting (row.Mixer _) following other = refl
+no_setting (row.Selector _) following other = refl
+no_setting (row.Feature _) following other = refl
+no_setting (row.Effect _) following other = refl
+no_setting (row.ClockSource _) following other = refl
+no_setting (row.ClockSelector _) following other = refl
+no_setting (row.ClockMultiplier _) following other = refl
+no_setting (row.General _) following other = refl
+no_setting (row.TypeOne _) following other = refl
+no_setting (row.Extra _) following other = refl
+no_setting (row.ClassEndpoint _) following other = refl
+no_setting (row.Foreign _) following other = refl
 
 -- the first of what is given, and a later one
 pub get_first : {X : Type 0} (o : Option X) (x : X) (n : ℕ) (rest : List X) → Some x ≡ o → n ≡ 0 → Some x ≡ slice_get (cons_option o rest) n

@@ -56,6 +56,6 @@ nearest_in_32_bits sum = int_max (negsuc 2147483647) (int_min sum (pos 214748364
 abbrev pub product_floor : ℤ → ℕ → ℤ
 product_floor sample gain = floor_div (sample *ℤ pos gain) (2 ^ 30)
 
--- a sample scaled and held to 32 bits: a gain above one can leave them
+-- a sample scaled and clamped to 32 bits: a gain above one can leave them
 abbrev pub scaled_sample : ℤ → ℕ → ℤ
 scaled_sample sample gain = nearest_in_32_bits (product_floor sample gain)

@@ -33,7 +33,7 @@ pub fn scaling_keeps_the_sign()
     ensures silent { (sample : ℤ) → scaled_sample sample 0 ≡ pos 0 }
 {}
 
-/// Before it is held to 32 bits, the scaled sample is the true product rounded towards minus infinity: the product lies
+/// Before it is clamped to 32 bits, the scaled sample is the true product rounded towards minus infinity: the product lies
 /// from it to less than one above.
 pub fn scaling_rounds_down()
     ensures from { (sample : ℤ) (gain : ℕ)

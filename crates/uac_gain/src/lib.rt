@@ -77,7 +77,7 @@ fn above(parts: u16) -> Option<u32>
     }
 }
 
-/// The sample scaled by a gain in parts of 2^30, rounded towards minus infinity and held to 32 bits.
+/// The sample scaled by a gain in parts of 2^30, rounded towards minus infinity and clamped to 32 bits.
 pub fn scale(sample: i32, gain: u32) -> i32
     ensures { result ≡ scaled_sample sample gain }
 {

@@ -37,7 +37,7 @@ fresh_pace stream = record { stream = stream; used = []; value = stream.nominal.
 unfoldable pub with_stream : ℕ → Option StreamFields → HostWorld → HostWorld
 with_stream interface stream w = record w { paces = at_interface interface (option_map fresh_pace stream) w.paces }
 
--- a rate value, held between the least and the greatest packet of a stream
+-- a rate value, clamped between the least and the greatest packet of a stream
 abbrev pub within_nominal : StreamFields → ℕ → ℕ
 within_nominal stream value = max (stream.nominal.lo * 65536) (min value (stream.nominal.hi * 65536))
 

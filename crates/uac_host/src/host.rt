@@ -101,7 +101,7 @@ impl Host {
         }
     }
 
-    /// A feedback report of an interface's stream came: its value is in force, held between the least and the greatest packet.
+    /// A feedback report of an interface's stream came: its value is in force, clamped between the least and the greatest packet.
     pub fn take_report(&mut self, interface: u8, value: u32)
         ensures stands { (w : HostWorld) → HostStands self.old w → HostStands self.new (with_report interface value w) }
     {

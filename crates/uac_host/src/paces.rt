@@ -66,7 +66,7 @@ impl Pace {
         frames_of(&mut self.pacer, self.value, self.stream.service)
     }
 
-    /// A feedback report came: its value is in force, held between the least and the greatest packet.
+    /// A feedback report came: its value is in force, clamped between the least and the greatest packet.
     pub(crate) fn report(&mut self, value: u32)
         ensures { self.new ≡ record self.old { value = spec.within_nominal self.old.stream value } }
     {

@@ -9,7 +9,7 @@ use Rattle.uac_descriptor.specs.Spelling.{spelling}
 use Rattle.uac_descriptor.proofs.SpellingLemmas.{is_whole-spelling}
 use Rattle.uac_descriptor.proofs.BlockParsingLemmas.{IsWhole-is_whole}
 use Rattle.uac_listing.specs.EntityLines.{ids_text, more_ids}
-use Rattle.uac_listing.specs.BlockLines.{kind_of, line_of, block_line, block_lines}
+use Rattle.uac_listing.specs.BlockLines.{block_name, line_of, block_line, block_lines}
 
 whole_spelling : (b : Block) → HasSpelling b → IsWhole (spelling b)
 whole_spelling b h = IsWhole-is_whole (spelling b) (is_whole-spelling b h.spells.complete)
@@ -35,9 +35,9 @@ in_front b bytes following h e =
     }
 
 -- the line of the block's own bytes
-pub line-spelling : (place : ℕ) (b : Block) (bytes text : List ℕ) → bytes ≡ spelling b → text ≡ line_of place (kind_of b) bytes → text ≡ block_line place b
+pub line-spelling : (place : ℕ) (b : Block) (bytes text : List ℕ) → bytes ≡ spelling b → text ≡ line_of place (block_name b) bytes → text ≡ block_line place b
 unfolding block_line
-line-spelling place b bytes text e t = t ∙ ap (line_of place (kind_of b)) e
+line-spelling place b bytes text e t = t ∙ ap (line_of place (block_name b)) e
 
 -- the lines so far, this block's line and the rest are all lines
 lines_more : (place i : ℕ) (blocks : List Block) (b : Block) (text : List ℕ) → i < length blocks → b ≡ get_or blocks i b

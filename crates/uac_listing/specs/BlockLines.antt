@@ -7,26 +7,26 @@ use Rattle.uac_descriptor.specs.declared.block.Block.TheVariants as variant
 use Rattle.uac_descriptor.specs.Spelling.{spelling}
 
 -- a block's kind
-abbrev pub kind_of : block.Block → List ℕ
-kind_of (variant.Configuration _) = codes "configuration"
-kind_of (variant.Association _) = codes "association"
-kind_of (variant.Interface _) = codes "interface"
-kind_of (variant.Endpoint _) = codes "endpoint"
-kind_of (variant.Header _) = codes "header"
-kind_of (variant.InputTerminal _) = codes "input_terminal"
-kind_of (variant.OutputTerminal _) = codes "output_terminal"
-kind_of (variant.Mixer _) = codes "mixer"
-kind_of (variant.Selector _) = codes "selector"
-kind_of (variant.Feature _) = codes "feature"
-kind_of (variant.Effect _) = codes "effect"
-kind_of (variant.ClockSource _) = codes "clock_source"
-kind_of (variant.ClockSelector _) = codes "clock_selector"
-kind_of (variant.ClockMultiplier _) = codes "clock_multiplier"
-kind_of (variant.General _) = codes "general"
-kind_of (variant.TypeOne _) = codes "type_one"
-kind_of (variant.Extra _) = codes "extra"
-kind_of (variant.ClassEndpoint _) = codes "class_endpoint"
-kind_of (variant.Foreign _) = codes "foreign"
+abbrev pub block_name : block.Block → List ℕ
+block_name (variant.Configuration _) = codes "configuration"
+block_name (variant.Association _) = codes "association"
+block_name (variant.Interface _) = codes "interface"
+block_name (variant.Endpoint _) = codes "endpoint"
+block_name (variant.Header _) = codes "header"
+block_name (variant.InputTerminal _) = codes "input_terminal"
+block_name (variant.OutputTerminal _) = codes "output_terminal"
+block_name (variant.Mixer _) = codes "mixer"
+block_name (variant.Selector _) = codes "selector"
+block_name (variant.Feature _) = codes "feature"
+block_name (variant.Effect _) = codes "effect"
+block_name (variant.ClockSource _) = codes "clock_source"
+block_name (variant.ClockSelector _) = codes "clock_selector"
+block_name (variant.ClockMultiplier _) = codes "clock_multiplier"
+block_name (variant.General _) = codes "general"
+block_name (variant.TypeOne _) = codes "type_one"
+block_name (variant.Extra _) = codes "extra"
+block_name (variant.ClassEndpoint _) = codes "class_endpoint"
+block_name (variant.Foreign _) = codes "foreign"
 
 -- the line of bytes of this kind at a place
 abbrev pub line_of : ℕ → List ℕ → List ℕ → List ℕ
@@ -35,7 +35,7 @@ line_of place kind bytes =
 
 -- the line of a block at a place
 unfoldable pub block_line : ℕ → block.Block → List ℕ
-block_line place b = line_of place (kind_of b) (spelling b)
+block_line place b = line_of place (block_name b) (spelling b)
 
 -- the lines of blocks, the first of them at this place
 abbrev pub block_lines : ℕ → List block.Block → List ℕ

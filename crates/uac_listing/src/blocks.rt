@@ -3,7 +3,7 @@ ghost use Rattle.std.specs.Prelude.{◌≡◌, ◌≤◌, ◌+◌, ◌++◌, len
 ghost use Rattle.uac_descriptor.specs.Spelling.{spelling};
 ghost use Rattle.uac_edges.specs.Faults.{HasCause};
 ghost use Rattle.uac_edges.specs.Writing.{AppendsFront, Writes};
-ghost use Rattle.uac_listing.specs.BlockLines.{block_line, block_lines, kind_of, line_of, BeginsWith, Gives};
+ghost use Rattle.uac_listing.specs.BlockLines.{block_line, block_lines, block_name, line_of, BeginsWith, Gives};
 
 use uac_descriptor::Block;
 use uac_descriptor::laws::has_spelling;
@@ -71,19 +71,19 @@ fn front<'a>(block: &Block, rest: &'a [u8]) -> &'a [u8]
 fn push_line(lines: &mut TextLine<ROOM>, place: usize, block: &Block, bytes: &[u8])
     requires few { length bytes.now ≤ 255 }
     requires room { length lines.old + LINE ≤ ROOM }
-    ensures { lines.new ≡ lines.old ++ line_of place (kind_of block.now) bytes.now }
+    ensures { lines.new ≡ lines.old ++ line_of place (block_name block.now) bytes.now }
 {
     lines.push_number(place as u64);
     lines.push(b" ");
-    lines.push(kind_of(block));
+    lines.push(block_name(block));
     lines.push(b" ");
     lines.push_hex(bytes);
     lines.push(b"\n");
 }
 
 /// A block's kind.
-fn kind_of(block: &Block) -> &'static [u8]
-    ensures kind { result.now ≡ kind_of block.now }
+fn block_name(block: &Block) -> &'static [u8]
+    ensures kind { result.now ≡ block_name block.now }
     ensures short { length result.now ≤ 16 }
 {
     match block {

@@ -138,14 +138,14 @@ since_lost values period p q r =
     omega arith
 
 -- a report lies between the least packet and the greatest, and is one of them, or exact
-pub record IsHeldReport (values : Nominal) (target level value : ℕ) : Type 0 where
+pub record IsClampedReport (values : Nominal) (target level value : ℕ) : Type 0 where
   pub least : values.lo * 65536 ≤ value
   pub most : value ≤ values.hi * 65536
   pub above : (value ≡ values.lo * 65536) ⊎ (value + 1024 * level ≤ values.f + 1024 * target)
   pub below : (value ≡ values.hi * 65536) ⊎ (values.f + 1024 * target ≤ value + 1024 * level)
 
-pub report_held : (values : Nominal) (target level : ℕ) → values.lo ≤ values.hi → IsHeldReport values target level (report_of values target level)
-report_held values target level order = record {
+pub report_clamped : (values : Nominal) (target level : ℕ) → values.lo ≤ values.hi → IsClampedReport values target level (report_of values target level)
+report_clamped values target level order = record {
   least = omega arith;
   most = omega arith;
   above = elim (cases_lt (values.f + 1024 * target) (1024 * level + values.lo * 65536)) [ inl h ↦ inl (omega arith) | inr h ↦ inr (omega arith) ];
@@ -167,8 +167,8 @@ robust_near values band service period p reports robust = (below robust.high, ab
 report_low : (values : Nominal) (band service period : ℕ) (report_lost : Bool) (p q : Point) → HasBand values band → IsInterval period
     → TakesReport values period report_lost p q → IsRobust values band service period p → IsLow values band period p → IsLow values band period q
 report_low values band service period false p q facts reports r robust low = from (cases_lt (p.level + band) p.target) where
-  held : IsHeldReport values p.target p.level (report_of values p.target p.level)
-  held = report_held values p.target p.level (omega (arith, facts.below, facts.above))
+  held : IsClampedReport values p.target p.level (report_of values p.target p.level)
+  held = report_clamped values p.target p.level (omega (arith, facts.below, facts.above))
 
   greatest : p.level + band < p.target → q.value ≡ values.hi * 65536
   greatest far = value_is held.below where
@@ -187,8 +187,8 @@ report_low values band service period true p q facts reports r robust (inr held)
 report_high : (values : Nominal) (band service period : ℕ) (report_lost : Bool) (p q : Point) → HasBand values band → IsInterval period
     → TakesReport values period report_lost p q → IsRobust values band service period p → IsHigh values band period p → IsHigh values band period q
 report_high values band service period false p q facts reports r robust high = from (cases_lt (p.target + band) p.level) where
-  held : IsHeldReport values p.target p.level (report_of values p.target p.level)
-  held = report_held values p.target p.level (omega (arith, facts.below, facts.above))
+  held : IsClampedReport values p.target p.level (report_of values p.target p.level)
+  held = report_clamped values p.target p.level (omega (arith, facts.below, facts.above))
 
   least : p.target + band < p.level → q.value ≡ values.lo * 65536
   least far = value_is held.above where
@@ -208,7 +208,7 @@ value_in_range : (values : Nominal) (band service period : ℕ) (report_lost : B
     → IsRobust values band service period p
     → (values.lo * 65536 ≤ value_after report_lost values p) × (value_after report_lost values p ≤ values.hi * 65536)
 value_in_range values band service period false p facts robust =
-    let held = report_held values p.target p.level (omega (arith, facts.below, facts.above)) in (held.least, held.most)
+    let held = report_clamped values p.target p.level (omega (arith, facts.below, facts.above)) in (held.least, held.most)
 value_in_range values band service period true p facts robust = (robust.least, robust.most)
 
 pub report_robust : (values : Nominal) (band service period : ℕ) (report_lost : Bool) (p q : Point)
@@ -251,7 +251,7 @@ near_half A B v f e m k L T h c drift asks both below start =
     let all : (k + m) * e ≡ 64 * e = ap (λ (n : ℕ). n * e) both in
     omega arith
 
--- the same where the value is held, and pulls home at least as much as the clock deviates
+-- the same where the value is clamped, and pulls home at least as much as the clock deviates
 held_half : (A B v f e m S R D : ℕ) → A + S + m * f ≤ B + R + m * v + m * e → v + e ≤ f → R ≤ S + D → A ≤ B + D
 held_half A B v f e m S R D drift pulls start =
     let times : m * (v + e) ≤ m * f = mul-le-mul_left m pulls in
@@ -261,8 +261,8 @@ held_half A B v f e m S R D drift pulls start =
 pub tight_near : (values : Nominal) (band period : ℕ) (anchor : Anchor) (p : Point) → HasBand values band → IsInterval period
     → IsTight values period anchor p → Within (tight_bound values) (level_and_remainder p.level p.host) (target_and_remainder p.target p.clock)
 tight_near values band period anchor p facts reports tight = (above held.above, below held.below) where
-  held : IsHeldReport values p.target anchor.level (report_of values p.target anchor.level)
-  held = report_held values p.target anchor.level (omega (arith, facts.below, facts.above))
+  held : IsClampedReport values p.target anchor.level (report_of values p.target anchor.level)
+  held = report_clamped values p.target anchor.level (omega (arith, facts.below, facts.above))
 
   left : (64 - anchor.age) + anchor.age ≡ 64
   left = let short = not_long period p reports tight.counted in omega (arith, tight.age)
@@ -373,9 +373,9 @@ primed_tight values band service period p facts primed = record {
 }
 
 -- what a ring holds at some moment
-pub moment_held : (values : Nominal) (service period : ℕ) (p : Point) (held : ℕ) → StaysBetweenWholes values → AreIntervals service period
-    → IsRobust values 65 service period p → Moment values service p held → IsSafeLevel service held
-moment_held values service period p held room intervals robust m = record {
+pub moment_level : (values : Nominal) (service period : ℕ) (p : Point) (level : ℕ) → StaysBetweenWholes values → AreIntervals service period
+    → IsRobust values 65 service period p → Moment values service p level → IsSafeLevel service level
+moment_level values service period p level room intervals robust m = record {
   single = λ one.
       let few : service * values.hi ≡ 1 * values.hi = ap (λ (n : ℕ). n * values.hi) one in
       let t = robust.target.single one in

@@ -1,4 +1,4 @@
--- Where the sum over the integers is below 0, a report is held at the least packet, and so it is over the natural numbers.
+-- Where the sum over the integers is below 0, a report is clamped at the least packet, and so it is over the natural numbers.
 use Rattle.std.proofs.Common.{arith, ◌≡◌, ℕ, ◌*◌, pos, ◌+ℤ◌, ◌-ℤ◌, ◌*ℤ◌}
 use Rattle.std.proofs.lemmas.Int.{ints, clamps}
 use Rattle.std.specs.Int.{int_min, int_max}

@@ -19,7 +19,7 @@ third_of_44100 = refl
 second_of_two : frames_in_packet 2 (361267 ∷ 361267 ∷ 361267 ∷ 361267 ∷ []) ≡ 11
 second_of_two = refl
 
--- at 48,000 Hz: on the target, one frame below it and one above, and held at both ends
+-- at 48,000 Hz: on the target, one frame below it and one above, and clamped at both ends
 on_target : report_of (values_of 48000) 258 258 ≡ 393216
 unfolding values_of
 on_target = refl

@@ -66,7 +66,7 @@ ReportsKeepRobust =
     (values : Nominal) (band service period : ℕ) (report_lost : Bool) (p q : Point) → HasBand values band → AreIntervals service period
     → TakesReport values period report_lost p q → IsRobust values band service period p → IsRobust values band service period q
 
--- where the report of the anchor isn't held at either end: in 64ths, each microframe since the anchor takes one of its error, and leaves
+-- where the report of the anchor isn't clamped at either end: in 64ths, each microframe since the anchor takes one of its error, and leaves
 -- the remainders of the anchor and at most what the clock deviated
 abbrev pub FreeFormula : Type 0
 FreeFormula =
@@ -105,8 +105,8 @@ TightIsNear =
 -- what a primed ring holds at every moment
 abbrev pub RingsHoldEnough : Type 0
 RingsHoldEnough =
-    (values : Nominal) (service period : ℕ) (p : Point) (held : ℕ) → StaysBetweenWholes values → AreIntervals service period
-    → IsRobust values 65 service period p → Moment values service p held → IsSafeLevel service held
+    (values : Nominal) (service period : ℕ) (p : Point) (level : ℕ) → StaysBetweenWholes values → AreIntervals service period
+    → IsRobust values 65 service period p → Moment values service p level → IsSafeLevel service level
 
 -- a stream is primed at a level in its range: it was below the least one until a packet came at the nominal value, or an interval's zeros
 abbrev pub PrimedInRange : Type 0

@@ -189,7 +189,7 @@ pub record Fills (values : Nominal) (service before after : ℕ) : Type 0 where
 
 -- some moment after the end of an interval: so many microframes of the next one have passed, or pass now; some of their ticks were played,
 -- and of the interval's packet, or of the zero frames for these ticks, some have come
-pub record Moment (values : Nominal) (service : ℕ) (p : Point) (held : ℕ) : Type 0 where
+pub record Moment (values : Nominal) (service : ℕ) (p : Point) (level : ℕ) : Type 0 where
   pub passed : ℕ
   pub within : passed ≤ service
   pub steps : ℕ
@@ -198,12 +198,12 @@ pub record Moment (values : Nominal) (service : ℕ) (p : Point) (held : ℕ) : 
   pub some_ticks : played ≤ (p.clock + steps) / 65536
   pub came : ℕ
   pub some_frames : (came ≤ (p.host + service * p.value) / 65536) ⊎ (came ≤ (p.clock + steps) / 65536)
-  pub held_is : held + played ≡ p.level + came
+  pub level_is : level + played ≡ p.level + came
 
 -- the frames that a primed ring holds
-pub record IsSafeLevel (service held : ℕ) : Type 0 where
-  pub single : service ≡ 1 → (101 ≤ held) × (held ≤ 435)
-  pub longer : 1 < service → (182 ≤ held) × (held ≤ 1041)
+pub record IsSafeLevel (service level : ℕ) : Type 0 where
+  pub single : service ≡ 1 → (101 ≤ level) × (level ≤ 435)
+  pub longer : 1 < service → (182 ≤ level) × (level ≤ 1041)
 
 -- by the count of a stream's microframes, at the end of an interval: no report falls due before the end of the next one; where it falls due
 -- there, the count is a multiple of the period, and else the microframes since the last report grow by the interval

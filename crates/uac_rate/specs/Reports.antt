@@ -3,8 +3,8 @@ use Rattle.std.specs.Prelude.{◌≡◌, ℕ, ◌+◌, ◌-◌, ◌*◌, min, ma
 use Rattle.std.specs.Int.{int_min, int_max}
 use Rattle.uac_clock.specs.declared.values.Nominal.{Nominal}
 
--- the nominal value, and 1,024 more for each frame below the target or less for each above it, held between the least and the greatest
--- packet; where the difference would be below 0 it is held at the least anyway
+-- the nominal value, and 1,024 more for each frame below the target or less for each above it, clamped between the least and the
+-- greatest packet; where the difference would be below 0 it is clamped at the least anyway
 abbrev pub report_of : Nominal → ℕ → ℕ → ℕ
 report_of values target level = max (values.lo * 65536) (min (values.f + 1024 * target - 1024 * level) (values.hi * 65536))
 

@@ -21,7 +21,7 @@ pub fn packets_add_up()
     ensures by_remainder { PacketsFollowRemainders }
 {}
 
-/// A report is the nominal value and 1,024 for each frame that the level is below the target, over the integers, and held.
+/// A report is the nominal value and 1,024 for each frame that the level is below the target, over the integers, and clamped.
 pub fn reports_are_clamped_sums()
     ensures { ReportsOverIntegers }
 {}
@@ -58,7 +58,7 @@ pub fn a_report_keeps_robust()
     ensures { ReportsKeepRobust }
 {}
 
-/// How the error at an anchor goes home, as long as the report of the anchor isn't held at either end.
+/// How the error at an anchor goes home, as long as the report of the anchor isn't clamped at either end.
 pub fn free_formula()
     ensures { FreeFormula }
 {}

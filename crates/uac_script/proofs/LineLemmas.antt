@@ -13,7 +13,7 @@ use Rattle.uac_edges.specs.Numerals.{numeral}
 use Rattle.uac_script.specs.ScriptNumerals.{is_number, value_of}
 use Rattle.uac_script.specs.Phrase.{PhraseTone, silent, ramp_tone, noise_tone, PhraseMark, Phrase, nothing_line, bytes_line, go_line, control_line, get_line, set_line, show_line, break_line, append_line, track_line, jack_line, deviate_line, microframes_line, detail_line, report_line}
 use Rattle.uac_script.specs.Line.{IsRow, tone_words, letter_of_mark, mark_word, letters}
-use Rattle.uac_script.specs.LineParsing.{when_empty, only_of, pair_of, then_of, name_in, from_number, bytes_line_of, setup_bytes_in, sent_of, control_line_of, set_line_of, element_line_of, break_line_at, break_line_of, append_line_of, ramp_of, tone_read, signal_of, track_line_of, jack_line_of, deviation_of, deviate_line_of, kind_of, is_mark, mark_of, microframes_line_of, detail_line_of, row_of}
+use Rattle.uac_script.specs.LineParsing.{when_empty, only_of, pair_of, then_of, name_in, from_number, bytes_line_of, setup_bytes_in, sent_of, control_line_of, set_line_of, element_line_of, break_line_at, break_line_of, append_line_of, ramp_of, tone_read, signal_of, track_line_of, jack_line_of, deviation_of, deviate_line_of, mark_kind_of, is_mark, mark_of, microframes_line_of, detail_line_of, row_of}
 use Rattle.uac_script.proofs.ScriptNumeralsUniqueLemmas.{is_number-numeral, value_of-numeral, numeral-value_of}
 
 -- ---- what a step of reading needs to give something
@@ -241,15 +241,15 @@ kind_tests letter false true report a b c h = eqb-true _ _ b
 kind_tests letter false false true a b c h = eqb-true _ _ c
 kind_tests letter false false false a b c h = absurd (false≢true h)
 
-kind_sound : (letter : ℕ) → is_some (kind_of letter) ≡ true → letter ≡ letter_of_mark (unwrap_or (kind_of letter) Out)
+kind_sound : (letter : ℕ) → is_some (mark_kind_of letter) ≡ true → letter ≡ letter_of_mark (unwrap_or (mark_kind_of letter) Out)
 unfolding kind_by
 kind_sound letter h = kind_tests letter (eqb letter 111) (eqb letter 105) (eqb letter 102) refl refl refl h
 
 mark_sound : (word : Word) → is_mark word ≡ true → word ≡ mark_word (mark_of word)
 mark_sound [] h = absurd (false≢true h)
 mark_sound (letter ∷ word) h =
-    let parts = and_parts (is_some (kind_of letter)) (is_number word) h in
-    ap (λ c. c ∷ word) (kind_sound letter parts.0) ∙ ap (λ w. letter_of_mark (unwrap_or (kind_of letter) Out) ∷ w) (numeral-value_of word parts.1)
+    let parts = and_parts (is_some (mark_kind_of letter)) (is_number word) h in
+    ap (λ c. c ∷ word) (kind_sound letter parts.0) ∙ ap (λ w. letter_of_mark (unwrap_or (mark_kind_of letter) Out) ∷ w) (numeral-value_of word parts.1)
 
 all_marks : (words : List Word) → list_all is_mark words ≡ true → words ≡ map mark_word (map mark_of words)
 all_marks [] h = refl
@@ -308,7 +308,7 @@ values_read : (zs : List ℤ) → map value_of (map numeral zs) ≡ zs
 values_read [] = refl
 values_read (z ∷ zs) = ap (λ x. x ∷ map value_of (map numeral zs)) (value_of-numeral z) ∙ ap (λ xs. z ∷ xs) (values_read zs)
 
-kind_read : (kind : MarkKind) → kind_of (letter_of_mark kind) ≡ Some kind
+kind_read : (kind : MarkKind) → mark_kind_of (letter_of_mark kind) ≡ Some kind
 kind_read Out = refl
 kind_read In = refl
 kind_read Feedback = refl

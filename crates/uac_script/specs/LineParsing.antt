@@ -117,17 +117,17 @@ deviation_of (domain, ppm) = if is_number domain && is_number ppm then Some (dev
 abbrev pub deviate_line_of : List Word → Option Phrase
 deviate_line_of words = then_of deviation_of (pair_of words)
 
-abbrev pub kind_of : ℕ → Option MarkKind
-kind_of letter = if letter == 111 then Some Out else if letter == 105 then Some In else if letter == 102 then Some Feedback else None
+abbrev pub mark_kind_of : ℕ → Option MarkKind
+mark_kind_of letter = if letter == 111 then Some Out else if letter == 105 then Some In else if letter == 102 then Some Feedback else None
 
 -- a mark: the letter of a kind, and a number
 abbrev pub is_mark : Word → Bool
 is_mark [] = false
-is_mark (letter ∷ word) = is_some (kind_of letter) && is_number word
+is_mark (letter ∷ word) = is_some (mark_kind_of letter) && is_number word
 
 abbrev pub mark_of : Word → PhraseMark
 mark_of [] = record { kind = Out; interface = pos 0 }
-mark_of (letter ∷ word) = record { kind = unwrap_or (kind_of letter) Out; interface = value_of word }
+mark_of (letter ∷ word) = record { kind = unwrap_or (mark_kind_of letter) Out; interface = value_of word }
 
 abbrev pub microframes_line_of : List Word → Option Phrase
 microframes_line_of [] = None

@@ -4,7 +4,7 @@ ghost use Rattle.std.specs.Option.{option_copied};
 ghost use Rattle.std.specs.List.{list_all};
 ghost use Rattle.uac_script.specs.Words.{words_left, bytes_left};
 ghost use Rattle.uac_script.specs.ScriptNumerals.{is_number};
-ghost use Rattle.uac_script.specs.LineParsing.{verdict_of, append_line_of, microframes_line_of, samples_of, kind_of, is_mark, mark_of};
+ghost use Rattle.uac_script.specs.LineParsing.{verdict_of, append_line_of, microframes_line_of, samples_of, mark_kind_of, is_mark, mark_of};
 ghost use Rattle.uac_script.specs.Phrase.{is_id, are_marks_in_range};
 ghost use Rattle.uac_script.specs.Line.{phrase_mark};
 ghost use Rattle.uac_script.specs.Lent.{lent_phrase_result, Fits};
@@ -68,7 +68,7 @@ pub fn append<'a>(
 
 // What a mark's letter stands for.
 fn kind(letter: u8) -> Option<MarkKind>
-    ensures { result ≡ kind_of letter }
+    ensures { result ≡ mark_kind_of letter }
 {
     match letter {
         b'o' => Some(MarkKind::Out),

@@ -6,7 +6,7 @@ ghost use Rattle.std.specs.Char.{is_ascii_digit};
 ghost use Rattle.uac_script.specs.ScriptNumerals.{is_natural, natural_of, number_of, is_number, value_of, far, within_far};
 ghost use Rattle.uac_script.specs.Phrase.{is_within, is_id, is_in_32_bits};
 
-/// Above the greatest number of every range: what a longer numeral spells is held here.
+/// Above the greatest number of every range: what a longer numeral spells is clamped to it.
 const FAR: u64 = 1_000_000_000_000;
 
 // Whether all of a word are decimal digits.
@@ -27,7 +27,7 @@ fn is_natural(word: &[u8]) -> bool
     are_digits(word)
 }
 
-// The number that such a word spells, held at `FAR`.
+// The number that such a word spells, clamped at `FAR`.
 #[tactic(auto, unfolding(crate::specs::ScriptNumerals::natural_of))]
 fn natural(word: &[u8]) -> Option<u64>
     ensures { result ≡ option_map (λ n. min n far) (natural_of word.now) }
@@ -42,7 +42,7 @@ fn natural(word: &[u8]) -> Option<u64>
     Some(value)
 }
 
-/// The number that a word spells, held at `FAR` on either side of 0; none where it is no numeral.
+/// The number that a word spells, clamped at `FAR` on either side of 0; none where it is no numeral.
 #[tactic(auto, unfolding(crate::specs::ScriptNumerals::number_of))]
 fn number(word: &[u8]) -> Option<i64>
     ensures { result ≡ option_map within_far (number_of word.now) }
@@ -65,7 +65,7 @@ pub fn is_number(word: &[u8]) -> bool
     number(word).is_some()
 }
 
-// The number that a numeral spells, held at `FAR` on either side of 0.
+// The number that a numeral spells, clamped at `FAR` on either side of 0.
 #[tactic(auto, unfolding(crate::specs::ScriptNumerals::value_of))]
 fn value(word: &[u8]) -> i64
     ensures { result ≡ within_far (value_of word.now) }

@@ -8,7 +8,7 @@ use Rattle.uac_clock.specs.declared.values.Nominal.{Nominal}
 use Rattle.uac_clock.specs.Nominal.{StaysBetweenWholes}
 use Rattle.uac_rate.specs.Reports.{report_of}
 use Rattle.uac_rate.specs.Levels.{Point, level_and_remainder, target_and_remainder, Interval, TakesReport, IsCounted, Anchor, anchor_of, anchor_after_interval}
-use Rattle.uac_rate.proofs.LevelsLemmas.{IsHeldReport, report_held}
+use Rattle.uac_rate.proofs.LevelsLemmas.{IsClampedReport, report_clamped}
 use Rattle.uac_settle.specs.Settling.{pull_of, left_of, Gap, error_of}
 
 shares : (x m k : ℕ) → k + m ≡ 64 → k * x + m * x ≡ 64 * x
@@ -60,8 +60,8 @@ gap_home values anchor p room gap = (
   one_side (target_and_remainder p.target p.clock) (level_and_remainder p.level p.host) values.f p.value values.e anchor.age p.target anchor.level anchor.clock anchor.host
       (pull_of values) (omega (arith, gap.drift)) (below held.below) gap.young gap.clock slight least,
 ) where
-  held : IsHeldReport values p.target anchor.level (report_of values p.target anchor.level)
-  held = report_held values p.target anchor.level (omega (arith, room.below, room.above))
+  held : IsClampedReport values p.target anchor.level (report_of values p.target anchor.level)
+  held = report_clamped values p.target anchor.level (omega (arith, room.below, room.above))
 
   slight : 65535 + 64 * values.e ≤ 262144
   slight = omega (arith, room.slight)

@@ -114,9 +114,9 @@ context_is : (i : Interface) → is_streaming_interface i ≡ true → interface
 unfolding interface_context
 context_is i e = streaming_context (is_control_interface i) (is_streaming_interface i) e (no_both i e)
 
-alternate_ready : (i : Interface) (following : List block.Block) → EachIn IsWellFormed contexts.StreamingInterface following
+setting_ready : (i : Interface) (following : List block.Block) → EachIn IsWellFormed contexts.StreamingInterface following
     → IsReady (declared_setting_of i following).setting
-alternate_ready i following each =
+setting_ready i following each =
     record {
       format = λ f is. got IsTypeOneFormat (own format_of following) 0 f (own_hold format_of IsTypeOneFormat sized_of following each) is;
       first = λ e is. got IsFast (own endpoint_of following) 0 e (own_hold endpoint_of IsFast fast_of following each) is;
@@ -132,7 +132,7 @@ at_ready context (row.Interface i) following a each is = by (is_streaming_interf
     by true e is =
         let same : declared_setting_of i following ≡ a = cc in
         subst (λ (x : DeclaredSetting). IsReady x.setting) same
-        (alternate_ready i following (subst (λ (c : Context). EachIn IsWellFormed c following) (context_is i e) each))
+        (setting_ready i following (subst (λ (c : Context). EachIn IsWellFormed c following) (context_is i e) each))
     by false e is = absurd (cc)
 at_ready context b following a each is = absurd (cc)
 

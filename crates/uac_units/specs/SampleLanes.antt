@@ -15,7 +15,7 @@ IsGain gain = (pos 0 ≤ℤ gain) × (gain <ℤ pos 4294967296)
 abbrev pub SumFits : ℤ → Type 0
 SumFits sum = unsigned_abs sum ≤ 2 ^ 40
 
--- a sample scaled by a lane's gain, before and after it is held to 32 bits
+-- a sample scaled by a lane's gain, before and after it is clamped to 32 bits
 abbrev pub floored_by : ℤ → ℤ → ℤ
 floored_by sample gain = floor_div (sample *ℤ gain) (2 ^ 30)
 

@@ -10,7 +10,7 @@ ghost use Rattle.uac_units.specs.Rendering.{input};
 use crate::jobs::{Job, Pins};
 use std::simd::prelude::*;
 
-/// Eight samples, each scaled by the gain in its lane and held to 32 bits.
+/// Eight samples, each scaled by the gain in its lane and clamped to 32 bits.
 pub(crate) fn scale_eight(samples: i64x8, gains: i64x8) -> i64x8
     requires lanes { (length samples ≡ 8) × (length gains ≡ 8) }
     requires samples { Each1 (FitsSigned w32) samples }
@@ -32,7 +32,7 @@ pub(crate) fn multiply_eight(samples: i64x8, gains: i64x8) -> i64x8
     samples.strict_mul(gains) >> 30
 }
 
-/// Eight sums, each held to 32 bits.
+/// Eight sums, each clamped to 32 bits.
 pub(crate) fn saturate_eight(sums: i64x8) -> i64x8
     requires lanes { length sums ≡ 8 }
     requires fits { Each1 (FitsSigned w64) sums }

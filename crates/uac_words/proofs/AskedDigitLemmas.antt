@@ -6,7 +6,7 @@ use Rattle.std.specs.Result.{OkIff, result_ok}
 use Rattle.std.specs.Str.Parse.{AllDigits, IsNumeral, ParsesUnsigned, digits_value, without_leading_plus}
 use Rattle.std.proofs.lemmas.Bool.{and_parts, leb-true, le-leb, le-ltb, lt-ltb, ltb-true, cond-true, cond-false, ne_eqb}
 use Rattle.std.proofs.lemmas.Bool.Decides.{leb_tells}
-use Rattle.uac_words.specs.Asked.{is_decimal, number_of}
+use Rattle.uac_words.specs.Asked.{is_decimal, decimal_value_of}
 
 value_of_digit : (c : ℕ) → is_ascii_digit c ≡ true → (48 ≤ c) × (c ≤ 57) × (digit_value c ≡ c - 48)
 value_of_digit c h =
@@ -43,8 +43,8 @@ first_only true b h = h
 first_only false b h = refl
 
 parsed : {E : Type 0} (word : List ℕ) (r : Result ℕ E) → is_decimal word ≡ true → 0 < length word → AllDigits 10 word
-    → OkIff r (IsNumeral 10 word × (digits_value 10 word < 2 ^ 32)) (digits_value 10 word) → result_ok r ≡ number_of word
-unfolding number_of
+    → OkIff r (IsNumeral 10 word × (digits_value 10 word < 2 ^ 32)) (digits_value 10 word) → result_ok r ≡ decimal_value_of word
+unfolding decimal_value_of
 parsed word (Ok x) decimal some all h =
     let small = h.0.1 in
     ap Some h.1 ∙ sym (cond-true _ _ _ (both_true _ _ decimal (le-leb (digits_value 10 word) 4294967295 (omega arith))))
@@ -53,7 +53,7 @@ parsed word (Err e) decimal some all h = elim (leb_tells (digits_value 10 word) 
   | inr past ↦ sym (cond-false _ _ _ (first_only _ _ past.0))
 ]
 
-pub number_read : {E : Type 0} (word : List ℕ) (r : Result ℕ E) → is_decimal word ≡ true → ParsesUnsigned 32 10 word r → result_ok r ≡ number_of word
+pub number_read : {E : Type 0} (word : List ℕ) (r : Result ℕ E) → is_decimal word ≡ true → ParsesUnsigned 32 10 word r → result_ok r ≡ decimal_value_of word
 number_read {E} word r decimal h =
     let parts = decimal_parts word decimal in
     parsed word r decimal parts.0 (digits_all word parts.1)

@@ -17,7 +17,7 @@ use Rattle.uac_words.specs.declared.commands.Invocation.{Invocation}
 use Rattle.uac_words.specs.declared.commands.WordsFault.{WordsFault}
 use Rattle.uac_words.specs.declared.commands.WordsFault.TheVariants.{NoMemory, Usage}
 use Rattle.uac_words.specs.ByClap.{IsAnswer}
-use Rattle.uac_words.specs.Asked.{both, is_decimal, number_of}
+use Rattle.uac_words.specs.Asked.{both, is_decimal, decimal_value_of}
 use Rattle.uac_words.specs.CommandLines.{AnswersLine, IsCommandInRange, IsCommandLine, rack_name, command_words}
 use Rattle.uac_words.specs.Plain.{PartedWords, CommandWord, invocation_at, command_in, ends_options, has_rack_value, is_dashed, is_option, parted_words_of, plainly, rack_in, with_bare, with_rack}
 use Rattle.uac_words.proofs.CommandLinesLemmas.{line_asks}
@@ -50,8 +50,8 @@ written text h small =
     decimal-digits_value (numerals_by_value _ tells_digits) text (digits_all text parts.1) (omega arith)
     (lead_one (slice_index text 0) (length text) more.1) (omega arith)
 
-number_written : (text : CommandWord) (n : ℕ) → number_of text ≡ Some n → (text ≡ decimal n) × (n < 2 ^ 32)
-unfolding number_of
+number_written : (text : CommandWord) (n : ℕ) → decimal_value_of text ≡ Some n → (text ≡ decimal n) × (n < 2 ^ 32)
+unfolding decimal_value_of
 number_written text n h = go (is_decimal text && nat_le (digits_value 10 text) 4294967295) refl h
   where
     go : (t : Bool) → (is_decimal text && nat_le (digits_value 10 text) 4294967295) ≡ t → (if t then Some (digits_value 10 text) else None) ≡ Some n
@@ -85,11 +85,11 @@ command_written (word ∷ []) command h =
     named word (codes "settle") Settle command _ (refl, tt) _ refl h (λ h. nothing command h)))))
 command_written (word ∷ number ∷ []) command h = go (bytes_eq word (codes "gen")) refl h
   where
-    go : (t : Bool) → bytes_eq word (codes "gen") ≡ t → (if t then option_map Gen (number_of number) else None) ≡ Some command
+    go : (t : Bool) → bytes_eq word (codes "gen") ≡ t → (if t then option_map Gen (decimal_value_of number) else None) ≡ Some command
         → IsSpelled (word ∷ number ∷ []) command
     go false e h = nothing command h
     go true e h =
-        let found = mapped Gen (number_of number) command h in
+        let found = mapped Gen (decimal_value_of number) command h in
         let is = number_written number found.0 found.1 in
         subst (λ (c : Command). IsSpelled (word ∷ number ∷ []) c) found.2
         (ap (λ w. w ∷ number ∷ []) (bytes_same word (codes "gen") e) ∙ ap (λ d. codes "gen" ∷ d ∷ []) is.0, is.1)

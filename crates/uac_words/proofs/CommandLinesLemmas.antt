@@ -12,7 +12,7 @@ use Rattle.uac_words.specs.declared.commands.Command.TheVariants.{Check, Show, E
 use Rattle.uac_words.specs.declared.commands.RackChoice.{RackChoice}
 use Rattle.uac_words.specs.declared.commands.RackChoice.TheVariants.{Plain, Lanes}
 use Rattle.uac_words.specs.declared.commands.Invocation.{Invocation}
-use Rattle.uac_words.specs.Asked.{both, is_decimal, number_of}
+use Rattle.uac_words.specs.Asked.{both, is_decimal, decimal_value_of}
 use Rattle.uac_words.specs.CommandLines.{Chooses, IsCommandInRange, IsCommandLine, rack_name, command_words}
 use Rattle.uac_words.specs.Plain.{CommandWord, invocation_at, command_in, parted_words_of, plainly, rack_in, with_bare, with_rack}
 use Rattle.uac_words.proofs.AskedDigitLemmas.{both_true}
@@ -40,8 +40,8 @@ decimal_is (suc n) small =
     let first = first_decimal (suc n) (omega arith) (omega arith) in
     front (decimal (suc n)) (λ e. omega (arith, e)) numeral.0.0 numeral.0.1
 
-pub number_spelled : (n : ℕ) → n < 2 ^ 32 → number_of (decimal n) ≡ Some n
-unfolding number_of
+pub number_spelled : (n : ℕ) → n < 2 ^ 32 → decimal_value_of (decimal n) ≡ Some n
+unfolding decimal_value_of
 number_spelled n small =
     let value = (decimal_is_IsNumeral n (omega arith)).1 in
     cond-true _ _ _ (both_true _ _ (decimal_is n small) (le-leb (digits_value 10 (decimal n)) 4294967295 (omega arith))) ∙ ap Some value

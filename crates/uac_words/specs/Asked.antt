@@ -17,8 +17,8 @@ unfoldable pub is_decimal : List ℕ → Bool
 is_decimal text = nat_lt 0 (length text) && (not (slice_index text 0 == 48) || length text == 1) && list_all is_ascii_digit text
 
 -- the NUMBER that a word spells: a decimal number of 0 to 4294967295 without leading zeros
-unfoldable pub number_of : List ℕ → Option ℕ
-number_of text = if is_decimal text && nat_le (digits_value 10 text) 4294967295 then Some (digits_value 10 text) else None
+unfoldable pub decimal_value_of : List ℕ → Option ℕ
+decimal_value_of text = if is_decimal text && nat_le (digits_value 10 text) 4294967295 then Some (digits_value 10 text) else None
 
 -- the command of this name, of those that take no NUMBER
 abbrev pub command_named : List ℕ → Option Command
@@ -32,7 +32,7 @@ command_named word =
 
 -- the command of this name with this NUMBER: `gen` alone takes one
 abbrev pub command_with : List ℕ → List ℕ → Option Command
-command_with word number = if bytes_eq word (codes "gen") then option_map Gen (number_of number) else None
+command_with word number = if bytes_eq word (codes "gen") then option_map Gen (decimal_value_of number) else None
 
 abbrev pub command_of : List ℕ → Option (List ℕ) → Option Command
 command_of word None = command_named word

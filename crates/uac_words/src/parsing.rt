@@ -2,7 +2,7 @@
 ghost use Rattle.std.specs.Prelude.{◌≡◌, ◌≢◌, ◌⊎◌, IfOk, MatchResult, map, string_bytes};
 ghost use Rattle.std.specs.List.{list_all};
 ghost use Rattle.std.specs.Char.{is_ascii_digit};
-ghost use Rattle.uac_words.specs.Asked.{both, command_named, command_of, command_with, is_decimal, number_of, rack_named};
+ghost use Rattle.uac_words.specs.Asked.{both, command_named, command_of, command_with, is_decimal, decimal_value_of, rack_named};
 ghost use Rattle.uac_words.specs.ByClap.{HasMatched, IsAnswer, IsRefused, answer_to_words, invocation_of, invocation_by};
 ghost use Rattle.uac_words.specs.ByClap.{invocation_by_rows, now_in};
 ghost use Rattle.uac_words.specs.ByClap.{simple_command};
@@ -34,9 +34,9 @@ fn is_decimal(word: &[u8]) -> bool
 }
 
 /// The NUMBER that a word spells.
-#[tactic(auto, unfolding(crate::specs::Asked::number_of), using(crate::proofs::AskedDigitLemmas::number_read))]
+#[tactic(auto, unfolding(crate::specs::Asked::decimal_value_of), using(crate::proofs::AskedDigitLemmas::number_read))]
 fn number(word: &str) -> Option<u32>
-    ensures { result ≡ number_of word.now }
+    ensures { result ≡ decimal_value_of word.now }
 {
     if !is_decimal(word.as_bytes()) {
         return None;

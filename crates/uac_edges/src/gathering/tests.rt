@@ -17,7 +17,7 @@ fn a_front_stands_beneath(rt: HostRuntime) -> Result<(), Fail> {
             b"".as_slice(),
             "a fault at call {call}"
         );
-        assert!(rt; sink.settle().is_err(), "a fault at call {call}");
+        assert!(rt; sink.flush().is_err(), "a fault at call {call}");
         assert_eq!(rt;
             sink.beneath.bytes_written(),
             &text[..before],
@@ -40,7 +40,7 @@ fn a_full_sink_is_handed_on(rt: HostRuntime) -> Result<(), Fail> {
     let mut sink = Gathering::new(MemorySink::new(rt.alloc(), 5000, 5000, never)?);
     assert_eq!(rt; give_all(&mut sink, &text), Ok(()));
     assert_eq!(rt; sink.beneath.bytes_written(), &text[..4096]);
-    assert_eq!(rt; sink.settle(), Ok(()));
+    assert_eq!(rt; sink.flush(), Ok(()));
     assert_eq!(rt; sink.beneath.bytes_written(), text.as_slice());
     Ok(())
 }

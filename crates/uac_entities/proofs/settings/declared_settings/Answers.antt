@@ -5,7 +5,7 @@ use Rattle.uac_descriptor.specs.declared.block.Block as block
 use Rattle.uac_descriptor.specs.declared.block.Block.TheVariants as row
 use Rattle.uac_entities.specs.declared.settings.DeclaredSetting.{DeclaredSetting}
 use Rattle.uac_entities.specs.EntitySettings.{declared_setting_at, declared_settings}
-use Rattle.uac_entities.proofs.EntitySettingsLemmas.{alternates_at, alternates_end, no_alternate}
+use Rattle.uac_entities.proofs.EntitySettingsLemmas.{settings_at, settings_end, no_setting}
 use Rattle.uac_entities.proofs.settings.declared_settings.Goals as goal
 use Rattle.uac_entities.proofs.settings.declared_settings.Goals.{in-Interface+in_ok-keep, in_default}
 
@@ -16,7 +16,7 @@ loop-index-preserved c =
     let b = c.index-blocks-index.result in
     let rest = drop (l.index + 1) xs in
     let one : declared_settings (drop l.index xs) ≡ option_to_list (declared_setting_at b rest) ++ declared_settings rest =
-    alternates_at xs l.index b c.loop-index-test.true c.index-blocks-index.is in
+    settings_at xs l.index b c.loop-index-test.true c.index-blocks-index.is in
     let whole = ap (λ (ys : List DeclaredSetting). l.all.items ++ ys) (sym one) ∙ l.invariant in
     elim c.match-block.branch [
       | in-Interface+in_ok-keep w ↦
@@ -30,7 +30,7 @@ loop-index-preserved c =
           ∙ whole)
       | in_default w ↦
           ap (λ all. all.items ++ declared_settings rest) w.all-is
-          ∙ ap (λ (o : Option DeclaredSetting). l.all.items ++ (option_to_list o ++ declared_settings rest)) (sym (no_alternate b rest w.in_default.not-Interface))
+          ∙ ap (λ (o : Option DeclaredSetting). l.all.items ++ (option_to_list o ++ declared_settings rest)) (sym (no_setting b rest w.in_default.not-Interface))
           ∙ whole
     ]
 
@@ -38,5 +38,5 @@ pub returns : goal.returns
 returns c =
     let l = c.loop-index in
     sym (append-nil l.all.items)
-    ∙ ap (λ (ys : List DeclaredSetting). l.all.items ++ ys) (sym (alternates_end c.args.blocks.now l.index c.loop-index-test.false))
+    ∙ ap (λ (ys : List DeclaredSetting). l.all.items ++ ys) (sym (settings_end c.args.blocks.now l.index c.loop-index-test.false))
     ∙ l.invariant

@@ -1,5 +1,0 @@
-use Rattle.std.proofs.KnownBytes.{Keeps-trans, append_known-kept}
-use Rattle.uac_edges.proofs.gathering.GatheringSink.settle.Goals as goal
-
-pub returns-clause-kept : goal.returns-clause-kept
-returns-clause-kept g c = Keeps-trans _ _ _ c.hand_on.ensures.kept (append_known-kept _ _ _ c.settle.ensures.kept)
