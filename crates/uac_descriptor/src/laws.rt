@@ -9,7 +9,7 @@ pub fn one_spelling()
 {}
 
 /// Bytes are read as a block exactly where they spell it.
-pub fn reading()
+pub fn blocks_are_read_as_spelt()
     ensures spelt_is_read { SpeltIsRead }
     ensures read_is_spelt { ReadIsSpelt }
 {}

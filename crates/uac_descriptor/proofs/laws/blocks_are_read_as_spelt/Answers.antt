@@ -1,5 +1,5 @@
 use Rattle.uac_descriptor.proofs.LawsLemmas.{spelt_is_read, read_is_spelt}
-use Rattle.uac_descriptor.proofs.laws.reading.Goals as goal
+use Rattle.uac_descriptor.proofs.laws.blocks_are_read_as_spelt.Goals as goal
 
 pub returns-clause-spelt_is_read : goal.returns-clause-spelt_is_read
 returns-clause-spelt_is_read c = spelt_is_read
