@@ -3,7 +3,7 @@ ghost use Rattle.std.specs.Prelude.{◌≡◌, IfOk};
 ghost use Rattle.uac_entities.specs.Entities as spec;
 
 use crate::entity::{Cluster, Entity, EntityKind};
-use crate::lists::{keep, no_bytes, words_of};
+use crate::lists::{keep, no_bytes, word_list_of};
 use std::alloc::Global;
 use uac_descriptor::{
     Block, ByteList, ClockMultiplier, ClockSelector, ClockSource, Effect, Feature, InputTerminal,
@@ -61,7 +61,7 @@ fn entity_of(alloc: Global, block: &Block) -> Result<Option<Entity>, NoMemory>
 fn clock_source(alloc: Global, c: &ClockSource) -> Result<Entity, NoMemory>
     ensures { IfOk result (λ entity. entity ≡ spec.clock_source c.now) }
 {
-    let controls = words_of(alloc, &[u32::from(c.controls)])?;
+    let controls = word_list_of(alloc, &[u32::from(c.controls)])?;
     Ok(Entity {
         id: c.id,
         kind: EntityKind::ClockSource,
@@ -79,7 +79,7 @@ fn clock_selector(alloc: Global, c: &ClockSelector) -> Result<Entity, NoMemory>
     ensures { IfOk result (λ entity. entity ≡ spec.clock_selector c.now) }
 {
     let sources = ByteList::from_slice(alloc, c.sources.as_slice())?;
-    let controls = words_of(alloc, &[u32::from(c.controls)])?;
+    let controls = word_list_of(alloc, &[u32::from(c.controls)])?;
     Ok(Entity {
         id: c.id,
         kind: EntityKind::ClockSelector,
@@ -97,7 +97,7 @@ fn clock_multiplier(alloc: Global, c: &ClockMultiplier) -> Result<Entity, NoMemo
     ensures { IfOk result (λ entity. entity ≡ spec.clock_multiplier c.now) }
 {
     let sources = ByteList::from_slice(alloc, &[c.source])?;
-    let controls = words_of(alloc, &[u32::from(c.controls)])?;
+    let controls = word_list_of(alloc, &[u32::from(c.controls)])?;
     Ok(Entity {
         id: c.id,
         kind: EntityKind::ClockMultiplier,
@@ -114,7 +114,7 @@ fn clock_multiplier(alloc: Global, c: &ClockMultiplier) -> Result<Entity, NoMemo
 fn input_terminal(alloc: Global, t: &InputTerminal) -> Result<Entity, NoMemory>
     ensures { IfOk result (λ entity. entity ≡ spec.input_terminal t.now) }
 {
-    let controls = words_of(alloc, &[u32::from(t.controls)])?;
+    let controls = word_list_of(alloc, &[u32::from(t.controls)])?;
     Ok(Entity {
         id: t.id,
         kind: EntityKind::InputTerminal,
@@ -136,7 +136,7 @@ fn output_terminal(alloc: Global, t: &OutputTerminal) -> Result<Entity, NoMemory
     ensures { IfOk result (λ entity. entity ≡ spec.output_terminal t.now) }
 {
     let sources = ByteList::from_slice(alloc, &[t.source])?;
-    let controls = words_of(alloc, &[u32::from(t.controls)])?;
+    let controls = word_list_of(alloc, &[u32::from(t.controls)])?;
     Ok(Entity {
         id: t.id,
         kind: EntityKind::OutputTerminal,
@@ -154,7 +154,7 @@ fn mixer(alloc: Global, m: &Mixer) -> Result<Entity, NoMemory>
     ensures { IfOk result (λ entity. entity ≡ spec.mixer m.now) }
 {
     let sources = ByteList::from_slice(alloc, m.sources.as_slice())?;
-    let controls = words_of(alloc, &[u32::from(m.controls)])?;
+    let controls = word_list_of(alloc, &[u32::from(m.controls)])?;
     let mix_bits = ByteList::from_slice(alloc, m.mix_bits.as_slice())?;
     Ok(Entity {
         id: m.id,
@@ -177,7 +177,7 @@ fn selector(alloc: Global, s: &Selector) -> Result<Entity, NoMemory>
     ensures { IfOk result (λ entity. entity ≡ spec.selector s.now) }
 {
     let sources = ByteList::from_slice(alloc, s.sources.as_slice())?;
-    let controls = words_of(alloc, &[u32::from(s.controls)])?;
+    let controls = word_list_of(alloc, &[u32::from(s.controls)])?;
     Ok(Entity {
         id: s.id,
         kind: EntityKind::Selector,
@@ -195,7 +195,7 @@ fn feature(alloc: Global, f: &Feature) -> Result<Entity, NoMemory>
     ensures { IfOk result (λ entity. entity ≡ spec.feature f.now) }
 {
     let sources = ByteList::from_slice(alloc, &[f.source])?;
-    let controls = words_of(alloc, f.words.as_slice())?;
+    let controls = word_list_of(alloc, f.words.as_slice())?;
     Ok(Entity {
         id: f.id,
         kind: EntityKind::Feature,
@@ -213,7 +213,7 @@ fn effect(alloc: Global, e: &Effect) -> Result<Entity, NoMemory>
     ensures { IfOk result (λ entity. entity ≡ spec.effect e.now) }
 {
     let sources = ByteList::from_slice(alloc, &[e.source])?;
-    let controls = words_of(alloc, e.words.as_slice())?;
+    let controls = word_list_of(alloc, e.words.as_slice())?;
     Ok(Entity {
         id: e.id,
         kind: EntityKind::Effect,

@@ -13,7 +13,7 @@ pub(crate) fn no_bytes(alloc: Global) -> ByteList
 }
 
 /// A list of these words.
-pub(crate) fn words_of(alloc: Global, words: &[u32]) -> Result<WordList, NoMemory>
+pub(crate) fn word_list_of(alloc: Global, words: &[u32]) -> Result<WordList, NoMemory>
     ensures { IfOk result (λ list. list ≡ words.now) }
 {
     Ok(WordList::from_vec(Vec::from_slice(alloc, words)?))
