@@ -54,9 +54,11 @@ bytes_wanted size = max size 2
 
 abbrev pub is_kept : Verdict → Bool
 is_kept Kept = true
-is_kept _ = false
+is_kept Partial = false
+is_kept (Stopped stop) = false
 
 -- what is pending after these bytes
 abbrev pub pending_after : Verdict → List ℕ → List ℕ
 pending_after Kept bytes = []
-pending_after _ bytes = bytes
+pending_after Partial bytes = bytes
+pending_after (Stopped stop) bytes = bytes

@@ -4,7 +4,7 @@ ghost use Rattle.uac_descriptor.specs.Layout.{IsWhole};
 ghost use Rattle.uac_descriptor.specs.LayoutRows as rows;
 ghost use Rattle.uac_grammar.specs.Row.{read_row};
 
-use super::parts::{four_at, two_at, words_of};
+use super::parts::{control_words_of, four_at, two_at};
 use std::alloc::Global;
 use uac_descriptor::{
     Block, ByteList, ClockMultiplier, ClockSelector, ClockSource, Effect, Feature, Header,
@@ -172,7 +172,7 @@ pub(super) fn feature(alloc: Global, bytes: &[u8]) -> Result<Option<Block>, NoMe
     Ok(Some(Block::Feature(Feature {
         id: bytes[3],
         source: bytes[4],
-        words: words_of(alloc, &bytes[5..], (bytes.len() - 6) / 4)?,
+        words: control_words_of(alloc, &bytes[5..], (bytes.len() - 6) / 4)?,
         name: bytes[bytes.len() - 1],
     })))
 }
@@ -190,7 +190,7 @@ pub(super) fn effect(alloc: Global, bytes: &[u8]) -> Result<Option<Block>, NoMem
         id: bytes[3],
         effect_type: two_at(bytes, 4),
         source: bytes[6],
-        words: words_of(alloc, &bytes[7..], (bytes.len() - 8) / 4)?,
+        words: control_words_of(alloc, &bytes[7..], (bytes.len() - 8) / 4)?,
         name: bytes[bytes.len() - 1],
     })))
 }

@@ -27,7 +27,11 @@ pub(super) fn four_at(bytes: &[u8], i: usize) -> u32
 
 /// The first `count` control words in these bytes.
 #[tactic(auto, using(crate::proofs::LittleLemmas::words_push))]
-pub(super) fn words_of(alloc: Global, bytes: &[u8], count: usize) -> Result<WordList, NoMemory>
+pub(super) fn control_words_of(
+    alloc: Global,
+    bytes: &[u8],
+    count: usize,
+) -> Result<WordList, NoMemory>
     requires { 4 * count ≤ length bytes.now }
     ensures { IfOk result (λ words. words ≡ words_in count bytes.now) }
 {
