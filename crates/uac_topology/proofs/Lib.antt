@@ -8,4 +8,4 @@ pub mod FunctionKeptChannelLemmas
 pub mod FunctionKeptRangeLemmas
 pub mod FunctionKeptLinkLemmas
 pub mod FunctionKeptNumberLemmas
-pub mod FunctionEntityLemmas
+pub mod FunctionFoundLemmas

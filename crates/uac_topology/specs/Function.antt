@@ -1,5 +1,5 @@
 -- What a function is seen as.
-use Rattle.std.specs.Prelude.{ℕ, ◌==◌, List, Option}
+use Rattle.std.specs.Prelude.{ℕ, ◌==◌, List, Option, position}
 use Rattle.std.specs.List.{find}
 use Rattle.uac_entities.specs.declared.entity.Entity.{Entity}
 use Rattle.uac_entities.specs.declared.stream.StreamInterface.{StreamInterface}
@@ -17,3 +17,7 @@ pub record FunctionFields : Type 0 where
 -- the streaming interface with this number, if there is one
 abbrev pub interface_in : FunctionFields → ℕ → Option StreamInterface
 interface_in function number = find (λ s. s.number == number) function.streams
+
+-- its index among the streaming interfaces, in block order
+abbrev pub stream_index : FunctionFields → ℕ → Option ℕ
+stream_index function number = position (λ s. s.number == number) function.streams

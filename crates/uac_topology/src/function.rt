@@ -2,7 +2,7 @@
 ghost use Rattle.std.specs.Prelude.{◌≡◌, ◌==◌, position};
 ghost use Rattle.std.specs.Option.{option_map};
 ghost use Rattle.uac_entities.specs.EntityInterfaces.{channels_of, entity_by_id};
-ghost use Rattle.uac_topology.specs.Function.{FunctionFields, interface_in};
+ghost use Rattle.uac_topology.specs.Function.{FunctionFields, interface_in, stream_index};
 ghost use Rattle.uac_topology_rules.specs.Table.{at, index_of};
 
 use std::marker::Model;
@@ -60,7 +60,7 @@ impl Function {
     }
 
     /// The entity with this id, None exactly where no entity has it.
-    #[tactic(auto, using(crate::proofs::FunctionEntityLemmas::named_at, crate::proofs::FunctionEntityLemmas::named_nowhere))]
+    #[tactic(auto, using(crate::proofs::FunctionFoundLemmas::named_at, crate::proofs::FunctionFoundLemmas::named_nowhere))]
     pub fn entity(&self, id: u8) -> Option<&Entity>
         ensures { option_map (λ e. e.now) result ≡ entity_by_id self.now.entities id }
     {
@@ -94,11 +94,9 @@ impl Function {
 
     /// The index of the streaming interface with this number, None exactly where none has it.
     pub fn stream_at(&self, interface: u8) -> Option<usize>
-        ensures { result ≡ position (λ s. s.number == interface) self.now.streams }
+        ensures { result ≡ stream_index self.now interface }
     {
-        self.streams()
-            .iter()
-            .position(|stream| stream.number == interface)
+        self.stream_numbered(interface.into())
     }
 
     /// The streaming interface with this number, None exactly where none has it.
@@ -112,9 +110,19 @@ impl Function {
     pub fn interface_numbered(&self, number: u16) -> Option<&StreamInterface>
         ensures { option_map (λ s. s.now) result ≡ interface_in self.now number }
     {
+        match self.stream_numbered(number) {
+            Some(index) => self.streams().get(index),
+            None => None,
+        }
+    }
+
+    // The index of the streaming interface with this number as a request names it, None exactly where none has it.
+    fn stream_numbered(&self, number: u16) -> Option<usize>
+        ensures { result ≡ stream_index self.now number }
+    {
         self.streams()
             .iter()
-            .find(|stream| u16::from(stream.number) == number)
+            .position(|stream| u16::from(stream.number) == number)
     }
 
     /// The number of the control interface.

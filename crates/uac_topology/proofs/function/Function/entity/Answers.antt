@@ -1,6 +1,6 @@
 use Rattle.std.proofs.Common.{List, slice_get, ◌∙◌, sym, ap}
 use Rattle.uac_entities.specs.declared.entity.Entity.{Entity}
-use Rattle.uac_topology.proofs.FunctionEntityLemmas.{named_at, looked_up}
+use Rattle.uac_topology.proofs.FunctionFoundLemmas.{named_at, looked_up}
 use Rattle.uac_topology.proofs.function.Function.entity.Goals as goal
 
 pub returns-in-Some : goal.returns-in-Some
