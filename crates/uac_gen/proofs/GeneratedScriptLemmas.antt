@@ -4,7 +4,7 @@ use Rattle.std.specs.Prelude.{slice_index}
 use Rattle.std.specs.List.{range_with_len}
 use Rattle.std.proofs.lemmas.List.{take_min}
 use Rattle.uac_clock.specs.Nominal.{twelve_rates}
-use Rattle.uac_gen.specs.Descriptor.{descriptor_of}
+use Rattle.uac_gen.specs.GeneratedDescriptor.{descriptor_of}
 use Rattle.uac_gen.specs.Generator.{next_x, draw, deviation_line, unreported_lines, unpacked_lines, rest_line, groups, feed_line, feed_lines, feed_count, lines_after_descriptor, generated_lines}
 use Rattle.uac_gen.specs.Left.{from_groups}
 

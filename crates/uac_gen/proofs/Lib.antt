@@ -1,3 +1,3 @@
-pub mod DescriptorLemmas
+pub mod GeneratedDescriptorLemmas
 pub mod GeneratedScriptLemmas
 pub mod CopyRestLemmas

@@ -6,7 +6,7 @@ use Rattle.std.specs.Int.{to_le_bytes, w32}
 use Rattle.hex.specs.Hex.{encode_lower}
 use Rattle.uac_clock.specs.Nominal.{twelve_rates}
 use Rattle.uac_edges.specs.Numerals.{numeral}
-use Rattle.uac_gen.specs.Descriptor.{descriptor_of}
+use Rattle.uac_gen.specs.GeneratedDescriptor.{descriptor_of}
 
 -- x moves on, from the number that is given
 abbrev pub next_x : ℕ → ℕ

@@ -1,6 +1,6 @@
 -- The generator: the descriptor of a generated script, its lines, those that are left, and its bytes.
 -- What the program's theorem says: to be read and believed.
-pub mod Descriptor
+pub mod GeneratedDescriptor
 pub mod Generator
 pub mod GeneratedScript
 -- What the contracts below them cite: steps of the code, no part of what is promised.

@@ -1,7 +1,7 @@
 // The bytes of the script's descriptor.
 ghost use Rattle.std.specs.Prelude.{◌≡◌, ◌+◌, ◌*◌, ◌/◌, ◌%◌, ◌<◌, ◌≤◌, ◌++◌, length, flat_map};
 ghost use Rattle.uac_descriptor.specs.Spelling.{spelling};
-ghost use Rattle.uac_gen.specs.Descriptor.{unit_at, units_of, front_blocks, descriptor_of};
+ghost use Rattle.uac_gen.specs.GeneratedDescriptor.{unit_at, units_of, front_blocks, descriptor_of};
 
 use uac_edges::TextLine;
 
@@ -20,7 +20,7 @@ const STREAM: [u8; 62] = [
 ];
 
 // The unit at this distance from unit 3.
-#[tactic(auto, using(crate::proofs::DescriptorLemmas::feature_bytes, crate::proofs::DescriptorLemmas::mixer_bytes))]
+#[tactic(auto, using(crate::proofs::GeneratedDescriptorLemmas::feature_bytes, crate::proofs::GeneratedDescriptorLemmas::mixer_bytes))]
 fn push_unit(bytes: &mut Bytes, distance: u8)
     requires few { distance < 30 }
     requires room { length bytes.old + 18 ≤ 1024 }

@@ -19,7 +19,7 @@ use Rattle.uac_topology_rules.specs.Rules.{breaks_u1, breaks_u2, breaks_u3, brea
 use Rattle.uac_topology_rules.specs.RuleFaults.{rule_fault, broken_ends, broken_names, broken_shapes, broken_walks, of_entity, of_interface}
 use Rattle.uac_topology_rules.proofs.LinkCyclesLemmas.{cycles_are_named}
 use Rattle.uac_topology.specs.Topology.{first_fault_of, streams_in}
-use Rattle.uac_gen.specs.Descriptor.{blocks_with, control_total, whole_total}
+use Rattle.uac_gen.specs.GeneratedDescriptor.{blocks_with, control_total, whole_total}
 use Rattle.uac_generated.proofs.CyclesLemmas.{descends_from, none_round}
 use Rattle.uac_generated.proofs.RulesClockLemmas.{has_clock_one, keeps_u11}
 use Rattle.uac_generated.proofs.ListRangeLemmas.{of_thirty}

@@ -24,7 +24,7 @@ use Rattle.uac_running.specs.RunningWorld.{at_start}
 use Rattle.uac_running.specs.RunningLines.{ready_line}
 use Rattle.uac_configuration.specs.Description.{blocks_from, blocks_of, function_of}
 use Rattle.uac_bus.specs.BusWorld.{Step, BusWorld, describing, done, step_feed, step_go, if_no_fault, if_sound, running, silently, step}
-use Rattle.uac_gen.specs.Descriptor.{descriptor_of}
+use Rattle.uac_gen.specs.GeneratedDescriptor.{descriptor_of}
 use Rattle.uac_gen.specs.Generator.{feed_count, feed_line}
 use Rattle.uac_generated.proofs.GrammarLemmas.{none_faulty}
 use Rattle.uac_generated.proofs.BusWorldLineLemmas.{Reaches, nothing, then_line}

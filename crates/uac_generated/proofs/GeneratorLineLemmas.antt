@@ -12,7 +12,7 @@ use Rattle.hex.specs.Hex.{IsBytes, encode_lower, lower_digits}
 use Rattle.hex.proofs.HexLemmas.{length-encode_with}
 use Rattle.uac_clock.specs.Nominal.{twelve_rates}
 use Rattle.uac_edges.specs.Numerals.{natural, numeral}
-use Rattle.uac_gen.specs.Descriptor.{descriptor_of}
+use Rattle.uac_gen.specs.GeneratedDescriptor.{descriptor_of}
 use Rattle.uac_gen.specs.Generator.{lines_after_descriptor, deviation_line, draw, feed_count, feed_line, feed_lines, generated_lines, group_lines, groups, next_x, rate_line, rest_line, run_line, setting_script_line, tone_line, unpacked_lines, unreported_lines}
 use Rattle.uac_edges.specs.TextLines.{with_newlines}
 use Rattle.uac_generated.proofs.GrammarLemmas.{all_bytes, all_short}

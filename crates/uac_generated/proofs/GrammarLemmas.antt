@@ -12,7 +12,7 @@ use Rattle.uac_sentence.specs.Fault.{faults_from}
 use Rattle.uac_sentence.specs.Cutting.{chop, chop_within}
 use Rattle.uac_sentence.specs.Values.{has_wrong_value, is_no_format, is_no_high_speed}
 use Rattle.uac_sentence.specs.Letter.{interface_context, interface_letter, whole_letter, is_device, has_unknown_subtype}
-use Rattle.uac_gen.specs.Descriptor.{descriptor_of}
+use Rattle.uac_gen.specs.GeneratedDescriptor.{descriptor_of}
 use Rattle.uac_generated.proofs.ListRangeLemmas.{of_thirty}
 
 pub none_faulty : (d : ℕ) → d < 30 → first_fault (descriptor_of (1 + d)) ≡ None

@@ -1,7 +1,7 @@
 use Rattle.std.proofs.Common.{◌+◌, ◌*◌, ◌++◌, flat_map, ap, ◌∙◌, arith}
 use Rattle.uac_descriptor.specs.Spelling.{spelling}
-use Rattle.uac_gen.specs.Descriptor.{units_of}
-use Rattle.uac_gen.proofs.DescriptorLemmas.{descriptor_is, output_bytes, stream_bytes}
+use Rattle.uac_gen.specs.GeneratedDescriptor.{units_of}
+use Rattle.uac_gen.proofs.GeneratedDescriptorLemmas.{descriptor_is, output_bytes, stream_bytes}
 use Rattle.uac_gen.proofs.descriptor.descriptor.Goals as goal
 
 pub returns : goal.returns

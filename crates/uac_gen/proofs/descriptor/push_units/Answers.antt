@@ -1,7 +1,7 @@
 use Rattle.std.proofs.Common.{◌++◌, flat_map, ap, sym, ◌∙◌, arith, append_assoc}
 use Rattle.uac_descriptor.specs.Spelling.{spelling}
-use Rattle.uac_gen.specs.Descriptor.{unit_at, units_of}
-use Rattle.uac_gen.proofs.DescriptorLemmas.{units_more}
+use Rattle.uac_gen.specs.GeneratedDescriptor.{unit_at, units_of}
+use Rattle.uac_gen.proofs.GeneratedDescriptorLemmas.{units_more}
 use Rattle.uac_gen.proofs.descriptor.push_units.Goals as goal
 
 pub loop-distance-preserved : goal.loop-distance-preserved

@@ -1,6 +1,6 @@
 use Rattle.std.proofs.Common.{◌≡◌, ◌≤◌, ◌+◌, ◌-◌, ◌*◌, ◌++◌, length, flat_map}
 use Rattle.uac_descriptor.specs.Spelling.{spelling}
-use Rattle.uac_gen.specs.Descriptor.{units_of}
+use Rattle.uac_gen.specs.GeneratedDescriptor.{units_of}
 use Rattle.uac_gen.proofs.descriptor.push_units.Given as goal
 
 -- So many units stand after the bytes that were there.

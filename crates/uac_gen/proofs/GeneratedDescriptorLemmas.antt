@@ -4,7 +4,7 @@ use Rattle.std.specs.List.{range_with_len}
 use Rattle.std.proofs.lemmas.Bool.{cond-true, cond-false, ne_eqb, cases_lt}
 use Rattle.std.proofs.lemmas.Grind.{flat_map-append, common_steps}
 use Rattle.uac_descriptor.specs.Spelling.{spelling}
-use Rattle.uac_gen.specs.Descriptor.{unit_at, units_of, speaker, stream_blocks, front_blocks, blocks_with, control_total, whole_total, descriptor_of}
+use Rattle.uac_gen.specs.GeneratedDescriptor.{unit_at, units_of, speaker, stream_blocks, front_blocks, blocks_with, control_total, whole_total, descriptor_of}
 
 -- ---- one unit
 
