@@ -2,10 +2,11 @@
 -- them. Profile: the order of events, and what is printed. The direction of an interface is that of its data endpoint (USB 2.0, 9.6.6);
 -- feedback is that of 5.12.4.2.
 use Rattle.std.specs.Prelude.{ℕ, ◌+◌, ◌==◌, ◌&&◌, not, nat_le, Bool, true, false, if◌then◌else◌, ℤ, pos, negsuc, List, [], ◌∷◌, ◌++◌, map}
-use Rattle.std.specs.Prelude.{filter, position, Option, Some, None, is_some}
+use Rattle.std.specs.Prelude.{filter, Option, Some, None, is_some}
 use Rattle.std.specs.List.{list_any, range_with_len}
 use Rattle.std.specs.Option.{option_map_or}
 use Rattle.uac_topology.specs.Function.{FunctionFields, interface_in}
+pub use Rattle.uac_topology.specs.Function.{stream_index}
 use Rattle.uac_alt.specs.AltStreams.{StreamFields}
 use Rattle.uac_rate.specs.Steadiness.{SteadyHistory, nothing_given, with_report_given, with_restart_given}
 use Rattle.uac_flow.specs.FlowStreams.{is_dry, is_full}
@@ -63,10 +64,6 @@ numbers_out function = filter (goes_out function) (numbers function)
 
 abbrev pub numbers_in : FunctionFields → List ℕ
 numbers_in function = filter (comes_in function) (numbers function)
-
--- the index of an interface among the streaming ones, in block order
-abbrev pub stream_index : FunctionFields → ℕ → Option ℕ
-stream_index function interface = position (λ s. s.number == interface) function.streams
 
 -- ---- losses
 
