@@ -9,7 +9,7 @@ use Rattle.uac_words.specs.declared.commands.Invocation.{Invocation}
 use Rattle.uac_scripts.specs.declared.jobs.SourceJob.{SourceJob}
 use Rattle.uac_describe.specs.declared.status.Status.{Status}
 use Rattle.uac_describe.specs.declared.status.Status.TheVariants as statuses
-use Rattle.uac_describe.specs.Outcome.{Outcome, no_memory}
+use Rattle.uac_describe.specs.Outcome.{Outcome, no_memory, outcome_of}
 use Rattle.uac_scripts.specs.ScriptRun.{IsRun}
 use Rattle.uac_describe.specs.HandingOn.{HandsOn}
 use Rattle.uac_cli.specs.Call.{AreAnswered, IsCall, ComesOfCommand, PrintsAlone}
@@ -25,13 +25,13 @@ module _ (w m w' : Option (List ℕ)) (f g f' : ℕ) (status status' : Status) (
   run_on job shown shown' left left' reads reads' run = record {
     taken = run.taken;
     end = run.end;
-    ending = run.ending;
+    outcome = run.outcome;
+    meters = run.meters;
     consumed = run.consumed;
     ended = run.ended;
     prompt = run.prompt;
     meant = run.meant;
-    lived = run.lived;
-    closed = closes_on run.ending.outcome w m w' f g f' status status' kept ends run.closed;
+    closed = closes_on run.outcome w m w' f g f' status status' kept ends run.closed;
     heard = (λ other. run.heard (λ is. other (status_before status status' g f' ends other ∙ is)));
     unheard = run.unheard;
   }
@@ -65,7 +65,7 @@ module _ (w m w' : Option (List ℕ)) (f g f' : ℕ) (status status' : Status) (
   pub call_on : (asked : Option Invocation) (shown shown' : List Reading) (left left' : Option (List ℕ)) (reads reads' : ℕ)
       → IsCall asked shown shown' left left' reads reads' w m f g status → IsCall asked shown shown' left left' reads reads' w w' f f' status'
   call_on asked shown shown' left left' reads reads' (inl answered) = inl (answered_on asked shown shown' left left' reads reads' answered)
-  call_on asked shown shown' left left' reads reads' (inr prints) = inr (prints_on no_memory shown shown' left left' reads reads' prints)
+  call_on asked shown shown' left left' reads reads' (inr prints) = inr (prints_on (outcome_of no_memory) shown shown' left left' reads reads' prints)
 
 -- ---- its faults
 
@@ -73,20 +73,20 @@ module _ (shown shown' : List Reading) (left left' : Option (List ℕ)) (reads r
     (other : status ≢ statuses.WriteFault) where
   -- no write failed, so none met a fault
   done_quiet : (command : Command) → ComesOfCommand command shown shown' left left' reads reads' w w' f f' status → f' ≡ f
-  done_quiet commands.Check run = closes_faultless run.ending.outcome w w' f f' status run.closed other
-  done_quiet commands.Show run = closes_faultless run.ending.outcome w w' f f' status run.closed other
-  done_quiet commands.Elements run = closes_faultless run.ending.outcome w w' f f' status run.closed other
-  done_quiet commands.Run run = closes_faultless run.ending.outcome w w' f f' status run.closed other
-  done_quiet (commands.Gen number) generated = closes_faultless generated.run.ending.outcome w w' f f' status generated.run.closed other
+  done_quiet commands.Check run = closes_faultless run.outcome w w' f f' status run.closed other
+  done_quiet commands.Show run = closes_faultless run.outcome w w' f f' status run.closed other
+  done_quiet commands.Elements run = closes_faultless run.outcome w w' f f' status run.closed other
+  done_quiet commands.Run run = closes_faultless run.outcome w w' f f' status run.closed other
+  done_quiet (commands.Gen number) generated = closes_faultless generated.run.outcome w w' f f' status generated.run.closed other
   done_quiet commands.Settle prints = closes_faultless settle_outcome w w' f f' status prints.closed other
 
   answered_quiet : (asked : Option Invocation) → AreAnswered asked shown shown' left left' reads reads' w w' f f' status → f' ≡ f
-  answered_quiet None run = closes_faultless run.ending.outcome w w' f f' status run.closed other
+  answered_quiet None run = closes_faultless run.outcome w w' f f' status run.closed other
   answered_quiet (Some words) answered = done_quiet words.command answered
 
   call_quiet : (asked : Option Invocation) → IsCall asked shown shown' left left' reads reads' w w' f f' status → f' ≡ f
   call_quiet asked (inl answered) = answered_quiet asked answered
-  call_quiet asked (inr prints) = closes_faultless no_memory w w' f f' status prints.closed other
+  call_quiet asked (inr prints) = closes_faultless (outcome_of no_memory) w w' f f' status prints.closed other
 
 -- a failed write has its cause in the call
 pub write_fault_on : (asked : Option Invocation) (shown shown' : List Reading) (left left' : Option (List ℕ)) (reads reads' : ℕ) (w m : Option (List ℕ)) (f g f' : ℕ)

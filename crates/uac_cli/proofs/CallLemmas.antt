@@ -14,7 +14,7 @@ use Rattle.uac_scripts.specs.declared.jobs.SourceJob.TheVariants.{Run}
 use Rattle.uac_describe.specs.declared.description.Description.TheVariants.{Check, Elements, Show}
 use Rattle.uac_describe.specs.declared.status.Status.{Status}
 use Rattle.uac_describe.specs.declared.status.Status.TheVariants as statuses
-use Rattle.uac_describe.specs.Outcome.{Outcome, no_memory}
+use Rattle.uac_describe.specs.Outcome.{Outcome, no_memory, outcome_of}
 use Rattle.uac_scripts.specs.ScriptRun.{usage, IsRun}
 use Rattle.uac_describe.specs.Closing.{Closes, IsFaultless}
 use Rattle.uac_describe.specs.Answered.{IsDescribed}
@@ -104,8 +104,8 @@ usage_call asked fault shown a r w w' f f' status is answer closed =
 
 -- there was no memory to read them
 pub unread_call : (asked : Option Invocation) (shown : List Reading) (a : Option (List ℕ)) (r : ℕ) (w w' : Option (List ℕ)) (f f' : ℕ) (status : Status)
-    → Closes no_memory w w' f f' status → IsCall asked shown shown a a r r w w' f f' status
-unread_call asked shown a r w w' f f' status closed = inr (printed no_memory shown a r w w' f f' status closed)
+    → Closes (outcome_of no_memory) w w' f f' status → IsCall asked shown shown a a r r w w' f f' status
+unread_call asked shown a r w w' f f' status closed = inr (printed (outcome_of no_memory) shown a r w w' f f' status closed)
 
 -- the words ask for a command that reads the source to its end
 pub read_to_end : (asked : Option Invocation) (words : Invocation) (left : Option (List ℕ)) (status : Status) → asked ≡ Some words
@@ -123,7 +123,7 @@ pub record IsRefusal (outcome : Outcome) : Type 0 where
 pub usage_refuses : IsRefusal usage
 usage_refuses = record { unfinished = (λ e. cc); unread = (λ e. cc); unwritten = (λ e. cc) }
 
-pub memory_refuses : IsRefusal no_memory
+pub memory_refuses : IsRefusal (outcome_of no_memory)
 memory_refuses = record { unfinished = (λ e. cc); unread = (λ e. cc); unwritten = (λ e. cc) }
 
 pub refused_cause : (outcome : Outcome) → IsRefusal outcome → (w w' : Option (List ℕ)) (f f' : ℕ) (status : Status)

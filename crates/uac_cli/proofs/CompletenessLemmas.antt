@@ -13,7 +13,7 @@ use Rattle.uac_describe.specs.declared.description.Description.{Description}
 use Rattle.uac_describe.specs.declared.description.Description.TheVariants.{Check, Elements, Show}
 use Rattle.uac_describe.specs.declared.status.Status.{Status}
 use Rattle.uac_describe.specs.declared.status.Status.TheVariants as statuses
-use Rattle.uac_describe.specs.Outcome.{IsOutcomeOf, Outcome, at_end, no_memory}
+use Rattle.uac_describe.specs.Outcome.{IsOutcomeOf, Outcome, at_end, no_memory, outcome_of}
 use Rattle.uac_describe.specs.Closing.{Closes, HasNoFault}
 use Rattle.uac_scripts.specs.ScriptRun.{IsRun}
 use Rattle.uac_cli.specs.Call.{AreAnswered, IsCall, ComesOfCommand}
@@ -45,31 +45,34 @@ module _ (w w' : Option (List ℕ)) (f f' : ℕ) (status : Status) (quiet : HasN
   whole_of one other same closed = inl (subst (λ (o : Outcome). (status ≡ o.status) × Appends w w' o.text) same (closed_whole one w w' f f' status quiet closed))
 
   -- memory was wanted
-  wanted_of : (ending : Ending) (outcome : Outcome) → ending.outcome.status ≡ statuses.NoMemory → Closes ending.outcome w w' f f' status → IsWhole outcome
-  wanted_of ending outcome is closed = inr ((closed_whole ending.outcome w w' f f' status quiet closed).0 ∙ is)
+  wanted_of : (one other : Outcome) → one.status ≡ statuses.NoMemory → Closes one w w' f f' status → IsWhole other
+  wanted_of one other is closed = inr ((closed_whole one w w' f f' status quiet closed).0 ∙ is)
 
   module _ (shown shown' : List Reading) (a b : Option (List ℕ)) (r r' : ℕ) (bytes : List ℕ) (outcome : Outcome) where
     described_whole : (description : Description) → IsRun (Some (Describe description)) shown shown' a b r r' w w' f f' status → a ≡ Some bytes → HasNoFault r r'
         → AreBytes bytes × IsOutcomeOf description bytes at_end outcome → IsWhole outcome
-    described_whole description run is rests said = elim run.meant as (λ _. IsWhole outcome) [
+    described_whole description run is rests said = elim run.meant.0 as (λ _. IsWhole outcome) [
       | inl answers ↦
-          whole_of run.ending.outcome outcome
-          (said_once description bytes run.taken a b r r' run.end run.ending.outcome outcome is run.consumed rests run.ended answers.0 said.0 said.1) run.closed
-      | inr none ↦ wanted_of run.ending outcome (ap (λ (e : Ending). e.outcome.status) none) run.closed
+          whole_of run.outcome outcome
+          (said_once description bytes run.taken a b r r' run.end run.outcome outcome is run.consumed rests run.ended answers said.0 said.1) run.closed
+      | inr none ↦ wanted_of run.outcome outcome (ap (λ (o : Outcome). o.status) none) run.closed
     ]
 
     script_whole : IsRun (Some Run) shown shown' a b r r' w w' f f' status → a ≡ Some bytes → HasNoFault r r' → status ≢ statuses.WriteFault
         → ScriptComesTo shown bytes outcome → IsWhole outcome
-    script_whole run is rests written said = elim run.meant as (λ _. IsWhole outcome) [
-      | inl ends ↦
-          let now = one_transcript shown run.taken run.end run.ending ends in
-          let all = one_transcript shown bytes at_end said.0 said.1 in
-          let closed = closed_whole run.ending.outcome w w' f f' status quiet run.closed in
-          let same = done_once shown bytes run.taken a b r r' run.end is run.consumed rests run.ended
-          (λ fault. written (closed.0 ∙ ap (λ (e : Ending). e.outcome.status) now ∙ fault)) in
-          whole_of run.ending.outcome outcome (ap (λ (e : Ending). e.outcome) (now ∙ sym same ∙ sym all) ∙ said.2) run.closed
-      | inr wanted ↦ wanted_of run.ending outcome (ap (λ (e : Ending). e.outcome.status) wanted.is) run.closed
-    ]
+    script_whole run is rests written said =
+        let came = run.meant in
+        elim came.meant as (λ _. IsWhole outcome) [
+          | inl ends ↦
+              let now = one_transcript shown run.taken run.end came.ending ends in
+              let all = one_transcript shown bytes at_end said.0 said.1 in
+              let closed = closed_whole run.outcome w w' f f' status quiet run.closed in
+              let same = done_once shown bytes run.taken a b r r' run.end is run.consumed rests run.ended
+              (λ fault. written (closed.0 ∙ ap (λ (o : Outcome). o.status) came.printed ∙ ap (λ (e : Ending). e.printed.status) now ∙ fault)) in
+              whole_of run.outcome outcome (came.printed ∙ ap (λ (e : Ending). outcome_of e.printed) (now ∙ sym same ∙ sym all) ∙ said.2) run.closed
+          | inr wanted ↦
+              wanted_of run.outcome outcome (ap (λ (o : Outcome). o.status) came.printed ∙ ap (λ (e : Ending). e.printed.status) wanted.is) run.closed
+        ]
 
   module _ (shown shown' : List Reading) (a b : Option (List ℕ)) (r r' : ℕ) (bytes : List ℕ) (outcome : Outcome) where
     command_whole : (command : Command) → ComesOfCommand command shown shown' a b r r' w w' f f' status → HasInput command a r r' bytes → status ≢ statuses.WriteFault
@@ -88,8 +91,8 @@ module _ (w w' : Option (List ℕ)) (f f' : ℕ) (status : Status) (quiet : HasN
 
 module _ (asked : Option Invocation) (shown : List Reading) (a : Option (List ℕ)) (r r' : ℕ) (w w' : Option (List ℕ)) (f f' : ℕ) (status : Status) where
   -- there was no memory to read the words
-  pub unread_whole : Closes no_memory w w' f f' status → IsCompleteCall asked shown a r r' w w' f f' status
-  unread_whole closed words bytes outcome is input quiet said = inr (closed_whole no_memory w w' f f' status quiet closed).0
+  pub unread_whole : Closes (outcome_of no_memory) w w' f f' status → IsCompleteCall asked shown a r r' w w' f f' status
+  unread_whole closed words bytes outcome is input quiet said = inr (closed_whole (outcome_of no_memory) w w' f f' status quiet closed).0
 
   -- they ask for a command, which was done
   pub done_whole : (shown' : List Reading) (b : Option (List ℕ)) → IsCall asked shown shown' a b r r' w w' f f' status → (status ≡ statuses.WriteFault → Rose f f')

@@ -6,7 +6,6 @@ use Rattle.uac_gen.specs.Generator.{generated_lines}
 use Rattle.uac_gen.specs.GeneratedScript.{script_of}
 use Rattle.uac_script.specs.ScriptLines.{most_of_input, unended}
 use Rattle.uac_script.specs.LineParsing.{answer}
-use Rattle.uac_transcript.specs.Printing.{text_of}
 use Rattle.uac_bus.specs.declared.fault.BusFault.{BusFault}
 use Rattle.uac_bus.specs.BusWorld.{BusWorld, finish_of}
 use Rattle.uac_bus.specs.After.{After}
@@ -14,12 +13,11 @@ use Rattle.uac_steady.specs.Scripts.{after_texts}
 use Rattle.uac_generated.specs.Generated.{IsLineOfScript}
 use Rattle.uac_generated.proofs.GeneratedLemmas.{generated_scripts_are_done, generated_scripts_are_scripts, generated_scripts_are_steady}
 use Rattle.uac_promises.proofs.PromisesLemmas.{all_scripts_keep_promises}
-use Rattle.uac_describe.specs.declared.status.Status.TheVariants as statuses
 use Rattle.uac_describe.specs.Outcome.{at_end}
 use Rattle.uac_scripts.specs.Script as script
 use Rattle.uac_edges.specs.TextLines.{with_newlines}
 use Rattle.uac_scripts.specs.Script.{IsScriptLine, come_to}
-use Rattle.uac_scripts.specs.ScriptTranscript.{Ending, with_text_first, closed_by, ends, ending_at}
+use Rattle.uac_scripts.specs.ScriptTranscript.{Ending, with_lines_first, closed_by, ends, ending_at, finished}
 use Rattle.uac_scripts.specs.Computed.{goes, transcript}
 use Rattle.uac_cli.specs.GeneratedCall.{GeneratedScriptsRunWhole}
 use Rattle.uac_scripts.proofs.ComputedLemmas.{all_say, is_transcript}
@@ -32,7 +30,7 @@ are_lines (text ∷ texts) (one, each) = (record { short = one.short; whole = on
 
 -- nothing stands after the last newline, and the script may end
 ended : (spare number : ℕ) (w : BusWorld) → finish_of w ≡ Ok tt
-    → goes spare [] at_end number w ≡ ends (record { text = []; status = statuses.Ok }) w
+    → goes spare [] at_end number w ≡ ends finished w
 unfolding ending_at
 ended spare number w is =
     goes_at (unended []) spare [] at_end number w (head_nothing spare)
@@ -40,10 +38,10 @@ ended spare number w is =
 
 -- no line was refused, so what follows them is reached
 none_refused : (a : After) (number : ℕ) (go : BusWorld → Ending) (last : Ending) → a.refusal ≡ None → go a.world ≡ last
-    → come_to a number go ≡ with_text_first (text_of a.lines) last
+    → come_to a number go ≡ with_lines_first a.lines last
 none_refused a number go last none is =
-    ap (λ (o : Option BusFault). with_text_first (text_of a.lines) (script.go_unless_refused o (number + a.count) a.world go)) none
-    ∙ ap (with_text_first (text_of a.lines)) is
+    ap (λ (o : Option BusFault). with_lines_first a.lines (script.go_unless_refused o (number + a.count) a.world go)) none
+    ∙ ap (with_lines_first a.lines) is
 
 pub generated_scripts_run_whole : GeneratedScriptsRunWhole
 unfolding script_of

@@ -12,7 +12,7 @@ use Rattle.uac_describe.specs.declared.status.Status.TheVariants as statuses
 use Rattle.uac_cli.specs.Boxes.{IsFreshCall, fresh_readings}
 use Rattle.uac_cli.specs.Call.{ask_to_read}
 use Rattle.uac_cli.specs.Completeness.{IsCompleteCall}
-use Rattle.uac_describe.specs.Outcome.{no_memory}
+use Rattle.uac_describe.specs.Outcome.{no_memory, outcome_of}
 use Rattle.uac_cli.specs.Program.{asked_by}
 use Rattle.uac_describe.specs.Closing.{Closes}
 
@@ -37,11 +37,11 @@ end_asked asked asked' left status same at_end = subst (λ (x : Option Invocatio
 
 -- nothing was taken and nothing written before `no memory` was
 pub call_unread : (asked : Option Invocation) (left left' : Option (List ℕ)) (reads reads' : ℕ) (w mid w' : Option (List ℕ)) (f between f' : ℕ) (status : Status)
-    → left' ≡ left → reads' ≡ reads → mid ≡ w → between ≡ f → Closes no_memory mid w' between f' status → IsFreshCall asked left left' reads reads' w w' f f' status
+    → left' ≡ left → reads' ≡ reads → mid ≡ w → between ≡ f → Closes (outcome_of no_memory) mid w' between f' status → IsFreshCall asked left left' reads reads' w w' f f' status
 call_unread asked left left' reads reads' w mid w' f between f' status taken read kept quiet closed = record {
   shown' = fresh_readings;
   call = inr (record {
     apart = record { heard = refl; taken = taken; read = read };
-    closed = subst (λ (x : Option (List ℕ)). Closes no_memory x w' f f' status) kept (subst (λ (n : ℕ). Closes no_memory mid w' n f' status) quiet closed);
+    closed = subst (λ (x : Option (List ℕ)). Closes (outcome_of no_memory) x w' f f' status) kept (subst (λ (n : ℕ). Closes (outcome_of no_memory) mid w' n f' status) quiet closed);
   });
 }

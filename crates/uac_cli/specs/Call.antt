@@ -8,7 +8,7 @@ use Rattle.uac_words.specs.declared.commands.Invocation.{Invocation}
 use Rattle.uac_scripts.specs.declared.jobs.SourceJob.TheVariants.{Describe, Run}
 use Rattle.uac_describe.specs.declared.description.Description.TheVariants.{Check, Elements, Show}
 use Rattle.uac_describe.specs.declared.status.Status.{Status}
-use Rattle.uac_describe.specs.Outcome.{Outcome, no_memory}
+use Rattle.uac_describe.specs.Outcome.{Outcome, no_memory, outcome_of}
 use Rattle.uac_describe.specs.Closing.{Closes}
 use Rattle.uac_describe.specs.SettleLines.{settle_outcome}
 use Rattle.uac_scripts.specs.ScriptRun.{IsRun}
@@ -64,7 +64,7 @@ abbrev pub IsCall : Option Invocation → List Reading → List Reading → Opti
     → Option (List ℕ) → ℕ → ℕ → Status → Type 0
 IsCall words shown shown' left left' reads reads' written written' writes writes' status =
     AreAnswered words shown shown' left left' reads reads' written written' writes writes' status
-    ⊎ PrintsAlone no_memory shown shown' left left' reads reads' written written' writes writes' status
+    ⊎ PrintsAlone (outcome_of no_memory) shown shown' left left' reads reads' written written' writes writes' status
 
 -- the command reads the source to its end
 abbrev pub reads_all : Command → Bool

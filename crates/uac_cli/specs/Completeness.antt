@@ -11,14 +11,14 @@ use Rattle.uac_describe.specs.declared.description.Description.TheVariants.{Chec
 use Rattle.uac_describe.specs.declared.status.Status.{Status}
 use Rattle.uac_describe.specs.declared.status.Status.TheVariants as statuses
 use Rattle.uac_describe.specs.Closing.{HasNoFault}
-use Rattle.uac_describe.specs.Outcome.{IsOutcomeOf, Outcome, at_end}
+use Rattle.uac_describe.specs.Outcome.{IsOutcomeOf, Outcome, at_end, outcome_of}
 use Rattle.uac_scripts.specs.ScriptTranscript.{Ending, IsTranscript}
 use Rattle.uac_cli.specs.Call.{reads_all}
 use Rattle.uac_describe.specs.SettleLines.{settle_outcome}
 
 -- a script of these bytes and no more has this outcome
 abbrev pub ScriptComesTo : List Reading → List ℕ → Outcome → Type 0
-ScriptComesTo shown bytes outcome = (ending : Ending) × IsTranscript shown bytes at_end ending × (ending.outcome ≡ outcome)
+ScriptComesTo shown bytes outcome = (ending : Ending) × IsTranscript shown bytes at_end ending × (outcome_of ending.printed ≡ outcome)
 
 -- What a command comes to over an input that is these bytes and no more: `check`, `show` and `elements` say what is said of them where they
 -- end, `run` does their lines to the end, `gen` does those of its number's script, and `settle` takes no input.

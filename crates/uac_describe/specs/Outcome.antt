@@ -1,5 +1,5 @@
 -- What is said of a descriptor and how that ends, from the bytes that were taken of the input (profile).
-use Rattle.std.specs.Prelude.{◌≡◌, ℕ, Bool, true, false, List, ◌++◌, length, flat_map, None, Some, codes, decimal}
+use Rattle.std.specs.Prelude.{◌≡◌, ℕ, List, [], ◌∷◌, ◌++◌, length, flat_map, None, Some, codes, decimal}
 use Rattle.uac_descriptor.specs.declared.block.Block.{Block}
 use Rattle.uac_sentence.specs.declared.faults.GrammarFault.{GrammarFault}
 use Rattle.uac_sentence.specs.Grammar.{first_fault}
@@ -18,6 +18,8 @@ use Rattle.uac_listing.specs.ElementLines.{element_lines}
 use Rattle.uac_mixer.specs.ViewWorld.{known_view}
 use Rattle.uac_store.specs.StoreControls.{initial_controls}
 use Rattle.uac_listing.specs.BlockLines.{block_lines}
+use Rattle.uac_transcript.specs.Printing.{text_of}
+use Rattle.uac_transcript.specs.Transcript.{Said, says_no_memory, says_read_fault, says_refused, says_unsound}
 
 -- why no more was taken of the source
 pub data End : Type 0 where
@@ -33,42 +35,41 @@ pub record Outcome : Type 0 where
   pub text : List ℕ
   pub status : Status
 
-abbrev pub read_fault : Outcome
-read_fault = record { text = codes "read fault\n"; status = statuses.ReadFault }
+-- typed lines and the status
+pub record Printed : Type 0 where
+  pub lines : List Said
+  pub status : Status
 
-abbrev pub no_memory : Outcome
-no_memory = record { text = codes "no memory\n"; status = statuses.NoMemory }
+-- the text of typed lines, with their status
+abbrev pub outcome_of : Printed → Outcome
+outcome_of printed = record { text = text_of printed.lines; status = printed.status }
+
+abbrev pub read_fault : Printed
+read_fault = record { lines = says_read_fault ∷ []; status = statuses.ReadFault }
+
+abbrev pub no_memory : Printed
+no_memory = record { lines = says_no_memory ∷ []; status = statuses.NoMemory }
 
 -- a descriptor breaks a rule of the grammar: the rule and its place
-abbrev pub refusal : GrammarFault → Outcome
-refusal fault = record {
-  text = codes "descriptor G" ++ decimal fault.rule ++ codes " at " ++ decimal fault.at ++ codes "\n";
-  status = statuses.Descriptor;
-}
+abbrev pub refusal : GrammarFault → Printed
+refusal fault = record { lines = says_refused fault.rule fault.at ∷ []; status = statuses.Descriptor }
 
 -- the function breaks a rule of the topology: the rule and its offender
-abbrev pub offender_text : Bool → List ℕ
-offender_text true = codes " interface "
-offender_text false = codes " entity "
-
-abbrev pub unsound : TopologyFault → Outcome
-unsound fault = record {
-  text = codes "descriptor U" ++ decimal fault.rule ++ offender_text fault.interface ++ decimal fault.id ++ codes "\n";
-  status = statuses.Descriptor;
-}
+abbrev pub unsound : TopologyFault → Printed
+unsound fault = record { lines = says_unsound fault.rule fault.interface fault.id ∷ []; status = statuses.Descriptor }
 
 -- what is printed of a sound descriptor, its blocks and its function
-abbrev pub text_of : Description → List Block → FunctionFields → List ℕ
-text_of Check blocks function =
+abbrev pub listing_of : Description → List Block → FunctionFields → List ℕ
+listing_of Check blocks function =
     codes "ok blocks " ++ decimal (length blocks) ++ codes " entities " ++ decimal (length function.entities)
     ++ codes " streams " ++ decimal (length function.streams) ++ codes " domains " ++ decimal (length function.domains) ++ codes "\n"
-text_of Show blocks function =
+listing_of Show blocks function =
     block_lines 0 blocks ++ (flat_map entity_line function.entities ++ setting_lines function (initial_controls function.entities))
-text_of Elements blocks function = element_lines (known_view function.entities (initial_controls function.entities)).elements
+listing_of Elements blocks function = element_lines (known_view function.entities (initial_controls function.entities)).elements
 
 -- a descriptor is sound
 abbrev pub sound : Description → List Block → FunctionFields → Outcome
-sound description blocks function = record { text = text_of description blocks function; status = statuses.Ok }
+sound description blocks function = record { text = listing_of description blocks function; status = statuses.Ok }
 
 -- what the topology says of blocks
 pub data IsTopologyVerdict (description : Description) (blocks : List Block) : Outcome → Type 0 where
@@ -76,16 +77,19 @@ pub data IsTopologyVerdict (description : Description) (blocks : List Block) : O
   is_sound : (function : FunctionFields) → IsSound blocks → IsFunctionOf function blocks
       → IsTopologyVerdict description blocks (sound description blocks function)
   -- the descriptor breaks this rule first
-  is_broken : (fault : TopologyFault) → first_fault_of blocks ≡ Some fault → IsTopologyVerdict description blocks (unsound fault)
+  is_broken : (fault : TopologyFault) → first_fault_of blocks ≡ Some fault
+      → IsTopologyVerdict description blocks (outcome_of (unsound fault))
 
 -- What is said of a descriptor, by what was taken and why no more was.
 pub data IsOutcomeOf (description : Description) (taken : List ℕ) : End → Outcome → Type 0 where
   -- the bytes show a fault, whatever would follow
-  shows_fault : (end : End) (fault : GrammarFault) → shown_fault taken ≡ Some fault → IsOutcomeOf description taken end (refusal fault)
+  shows_fault : (end : End) (fault : GrammarFault) → shown_fault taken ≡ Some fault
+      → IsOutcomeOf description taken end (outcome_of (refusal fault))
   -- no fault is shown, and a read failed
-  fails : shown_fault taken ≡ None → IsOutcomeOf description taken read_failed read_fault
+  fails : shown_fault taken ≡ None → IsOutcomeOf description taken read_failed (outcome_of read_fault)
   -- the bytes are all, and have a fault
-  ends_in_fault : (fault : GrammarFault) → first_fault taken ≡ Some fault → IsOutcomeOf description taken at_end (refusal fault)
+  ends_in_fault : (fault : GrammarFault) → first_fault taken ≡ Some fault
+      → IsOutcomeOf description taken at_end (outcome_of (refusal fault))
   -- the bytes are all, and are these blocks
   is_read : (blocks : List Block) (outcome : Outcome) → IsSentence taken blocks → IsTopologyVerdict description blocks outcome
       → IsOutcomeOf description taken at_end outcome

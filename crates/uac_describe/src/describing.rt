@@ -8,7 +8,7 @@ ghost use Rattle.uac_edges.specs.Writing.{Writes};
 ghost use Rattle.uac_store.specs.StoreControls.{initial_controls};
 ghost use Rattle.uac_describe.specs.Answered.{IsDescribed, Judges, PrintsRefusal, RefusesFunction};
 ghost use Rattle.uac_describe.specs.Closing.{Closes, IsFaultless};
-ghost use Rattle.uac_describe.specs.Outcome.{no_memory, sound, text_of};
+ghost use Rattle.uac_describe.specs.Outcome.{listing_of, no_memory, outcome_of, sound};
 
 use crate::closing::close;
 use crate::description::Description;
@@ -81,7 +81,7 @@ fn print<K: Sink>(
 ) -> Status
     ensures { Closes (sound description blocks.now function) (K.written sink.old) (K.written sink.new) (K.faults sink.old)
         (K.faults sink.new) result
-        ⊎ Closes no_memory (K.written sink.old) (K.written sink.new) (K.faults sink.old) (K.faults sink.new) result }
+        ⊎ Closes (outcome_of no_memory) (K.written sink.old) (K.written sink.new) (K.faults sink.old) (K.faults sink.new) result }
 {
     match description {
         Description::Check => close(sink, sound_line(blocks, &function).as_bytes(), Status::Ok),
@@ -101,10 +101,11 @@ fn refuse<K: Sink>(stop: ReadStop, sink: &mut K) -> Status
 }
 
 /// Prints the elements of a fresh device, once all the memory for it is there.
+#[tactic(auto, unfolding(uac_transcript::specs::Transcript::spelling_of))]
 fn list<K: Sink>(alloc: Global, function: Function, sink: &mut K) -> Status
     ensures { (blocks : List Block) → Closes (sound Description.Elements blocks function) (K.written sink.old) (K.written sink.new)
         (K.faults sink.old) (K.faults sink.new) result
-        ⊎ Closes no_memory (K.written sink.old) (K.written sink.new) (K.faults sink.old) (K.faults sink.new) result }
+        ⊎ Closes (outcome_of no_memory) (K.written sink.old) (K.written sink.new) (K.faults sink.old) (K.faults sink.new) result }
 {
     match fresh_view(alloc, function) {
         Ok(view) => match write_elements(sink, view.elements()) {
@@ -116,10 +117,11 @@ fn list<K: Sink>(alloc: Global, function: Function, sink: &mut K) -> Status
 }
 
 /// Prints the blocks, the entities and the settings, once all the memory for it is there.
+#[tactic(auto, unfolding(uac_transcript::specs::Transcript::spelling_of))]
 fn show<K: Sink>(alloc: Global, blocks: &[Block], function: &Function, sink: &mut K) -> Status
     ensures { Closes (sound Description.Show blocks.now function.now) (K.written sink.old) (K.written sink.new) (K.faults sink.old)
         (K.faults sink.new) result
-        ⊎ Closes no_memory (K.written sink.old) (K.written sink.new) (K.faults sink.old) (K.faults sink.new) result }
+        ⊎ Closes (outcome_of no_memory) (K.written sink.old) (K.written sink.new) (K.faults sink.old) (K.faults sink.new) result }
 {
     let store = match Store::new(alloc, function) {
         Ok(store) => store,
@@ -145,7 +147,7 @@ fn write_all<K: Sink>(
 ) -> Result<(), Failed>
     requires bytes { bytes.now ≡ flat_map spelling blocks.now }
     requires start { store.now ≡ initial_controls function.now.entities }
-    ensures written { Writes (K.written sink.old) (K.written sink.new) result (text_of Description.Show blocks.now function.now) }
+    ensures written { Writes (K.written sink.old) (K.written sink.new) result (listing_of Description.Show blocks.now function.now) }
     ensures cause { HasCause (K.faults sink.old) (K.faults sink.new) result }
 {
     write_blocks(sink, blocks, bytes)?;

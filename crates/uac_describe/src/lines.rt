@@ -1,7 +1,8 @@
 // The lines that are printed, each from a buffer of fixed size.
 ghost use Rattle.std.specs.Prelude.{◌≡◌, ◌≤◌, length};
 ghost use Rattle.uac_describe.specs.declared.description.Description.TheVariants.{Check};
-ghost use Rattle.uac_describe.specs.Outcome.{offender_text, refusal, text_of, unsound};
+ghost use Rattle.uac_describe.specs.Outcome.{listing_of};
+ghost use Rattle.uac_transcript.specs.Transcript.{offender_text, says_refused, says_unsound, spelling_of};
 
 use uac_descriptor::Block;
 use uac_edges::TextLine;
@@ -14,7 +15,7 @@ pub const NO_MEMORY: &[u8] = b"no memory\n";
 
 /// `check`'s line for a sound descriptor.
 pub fn sound_line(blocks: &[Block], function: &Function) -> TextLine<160>
-    ensures { result ≡ text_of Check blocks.now function.now }
+    ensures { result ≡ listing_of Check blocks.now function.now }
 {
     let mut line = TextLine::new();
     line.push(b"ok blocks ");
@@ -30,8 +31,9 @@ pub fn sound_line(blocks: &[Block], function: &Function) -> TextLine<160>
 }
 
 /// The line for a function that breaks a rule of the topology.
+#[tactic(auto, unfolding(uac_transcript::specs::Transcript::spelling_of))]
 pub fn unsound_line(fault: &TopologyFault) -> TextLine<96>
-    ensures { result ≡ (unsound fault.now).text }
+    ensures { result ≡ spelling_of (says_unsound fault.now.rule fault.now.interface fault.now.id) }
 {
     let mut line = TextLine::new();
     line.push(b"descriptor U");
@@ -55,8 +57,9 @@ fn offender_text(interface: bool) -> &'static [u8]
 }
 
 /// The line for a descriptor that breaks a rule of the grammar.
+#[tactic(auto, unfolding(uac_transcript::specs::Transcript::spelling_of))]
 pub fn refusal_line(fault: &GrammarFault) -> TextLine<64>
-    ensures { result ≡ (refusal fault.now).text }
+    ensures { result ≡ spelling_of (says_refused fault.now.rule fault.now.at) }
 {
     let mut line = TextLine::new();
     line.push(b"descriptor G");

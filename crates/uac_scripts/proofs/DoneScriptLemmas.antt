@@ -6,22 +6,20 @@ use Rattle.uac_units.specs.Hearing.{Reading}
 use Rattle.uac_script.specs.ScriptLines.{Head, line, long, past, unended, head_of, most_of_input}
 use Rattle.uac_script.specs.LineParsing.{answer}
 use Rattle.uac_script.proofs.ScriptLinesLemmas.{head_unended-all}
-use Rattle.uac_transcript.specs.Printing.{text_of}
 use Rattle.uac_transcript.specs.Transcript.{Said}
-use Rattle.uac_transcript.proofs.PrintingLemmas.{text_of-append}
 use Rattle.uac_bus.specs.declared.fault.BusFault.TheVariants as faults
 use Rattle.uac_bus.specs.BusWorld.{BusWorld, Step, describing, done, refused, running, start}
 use Rattle.uac_bus.specs.After.{After, after, and_then, said_step}
 use Rattle.uac_promises.proofs.PromisesLemmas.{all_scripts_keep_promises}
-use Rattle.uac_describe.specs.Outcome.{End, Outcome, at_end, no_memory, read_failed, stopped}
+use Rattle.uac_describe.specs.Outcome.{End, Printed, at_end, no_memory, read_failed, stopped}
 use Rattle.uac_edges.specs.TextLines.{with_newlines}
 use Rattle.uac_scripts.specs.Script.{IsScriptLine, IsWanted}
-use Rattle.uac_scripts.specs.ScriptTranscript.{Ending, after_step, with_text_first, ends, ending_at, lines_by}
+use Rattle.uac_scripts.specs.ScriptTranscript.{Ending, after_step, with_lines_first, ends, ending_at, lines_by}
 use Rattle.uac_scripts.specs.Computed.{by_head, goes, goes_within, rest_done, transcript}
 use Rattle.uac_scripts.specs.DoneScript.{AreFirst, IsLast, IsDoneScript, at_the_end, at_a_refusal, at_a_long_line, past_the_limit, at_a_failed_read, at_a_failed_write, without_memory}
 use Rattle.uac_scripts.proofs.ComputedLemmas.{all_say}
 use Rattle.uac_scripts.proofs.ScriptCutLemmas.{front_cut, rest_cut}
-use Rattle.uac_scripts.proofs.ScriptTranscriptLemmas.{with_text_first-with_text_first}
+use Rattle.uac_scripts.proofs.ScriptTranscriptLemmas.{with_lines_first-twice}
 
 -- lines that were done in a world, the first ones of these bytes
 pub record IsDoneScriptFrom (w : BusWorld) (bytes : List ℕ) (ending : Ending) : Type 0 where
@@ -29,12 +27,12 @@ pub record IsDoneScriptFrom (w : BusWorld) (bytes : List ℕ) (ending : Ending) 
   pub lines : AllByRecursion IsScriptLine texts
   pub first : AreFirst texts bytes
   pub done : (after (map answer texts) w).refusal ≡ None
-  pub last : Outcome
+  pub last : Printed
   pub is_last : IsLast last
-  pub printed : ending ≡ with_text_first (text_of (after (map answer texts) w).lines) (ends last (after (map answer texts) w).world)
+  pub printed : ending ≡ with_lines_first (after (map answer texts) w).lines (ends last (after (map answer texts) w).world)
 
 -- no line was done
-none_done : (w : BusWorld) (bytes : List ℕ) (last : Outcome) → IsLast last → IsDoneScriptFrom w bytes (ends last w)
+none_done : (w : BusWorld) (bytes : List ℕ) (last : Printed) → IsLast last → IsDoneScriptFrom w bytes (ends last w)
 unfolding after
 none_done w bytes last is =
     record { texts = []; lines = tt; first = inl (bytes, refl); done = refl; last = last; is_last = is; printed = refl }
@@ -61,7 +59,7 @@ after_first text texts w next lines is = ap (λ (s : Step). and_then s w (after 
 
 one_first : (text rest : List ℕ) (w next : BusWorld) (lines : List Said) (ending : Ending) → IsScriptLine text
     → said_step (answer text) w ≡ done next lines → IsDoneScriptFrom next rest ending
-    → IsDoneScriptFrom w (text ++ 10 ∷ rest) (with_text_first (text_of lines) ending)
+    → IsDoneScriptFrom w (text ++ 10 ∷ rest) (with_lines_first lines ending)
 one_first text rest w next lines ending is_line step lived =
     let later : After = after (map answer lived.texts) next in
     let all : after (map answer (text ∷ lived.texts)) w ≡ and_then (done next lines) w (after (map answer lived.texts)) =
@@ -74,16 +72,15 @@ one_first text rest w next lines ending is_line step lived =
       last = lived.last;
       is_last = lived.is_last;
       printed =
-          ap (with_text_first (text_of lines)) lived.printed
-          ∙ with_text_first-with_text_first (text_of lines) (text_of later.lines) (ends lived.last later.world)
-          ∙ ap (λ (t : List ℕ). with_text_first t (ends lived.last later.world)) (sym (text_of-append lines later.lines))
-          ∙ sym (ap (λ (a : After). with_text_first (text_of a.lines) (ends lived.last a.world)) all);
+          ap (with_lines_first lines) lived.printed
+          ∙ with_lines_first-twice lines later.lines (ends lived.last later.world)
+          ∙ sym (ap (λ (a : After). with_lines_first a.lines (ends lived.last a.world)) all);
     }
 
 -- ---- the script's end
 
 record HasFinished (number : ℕ) (w : BusWorld) : Type 0 where
-  last : Outcome
+  last : Printed
   is_last : IsLast last
   is : ending_at number w ≡ ends last w
 
@@ -99,7 +96,7 @@ none_then_end number w bytes =
 
 -- the last line, which no newline ends
 last_done : (text : List ℕ) (number : ℕ) (w next : BusWorld) (lines : List Said) → IsScriptLine text → said_step (answer text) w ≡ done next lines
-    → IsDoneScriptFrom w text (with_text_first (text_of lines) (ending_at number next))
+    → IsDoneScriptFrom w text (with_lines_first lines (ending_at number next))
 unfolding after
 last_done text number w next lines is_line step =
     let is = finished_is number next in
@@ -112,9 +109,9 @@ last_done text number w next lines is_line step =
       last = is.last;
       is_last = is.is_last;
       printed =
-          ap (with_text_first (text_of lines)) is.is
-          ∙ ap (λ (ls : List Said). with_text_first (text_of ls) (ends is.last next)) (sym (append-nil lines))
-          ∙ sym (ap (λ (a : After). with_text_first (text_of a.lines) (ends is.last a.world)) all);
+          ap (with_lines_first lines) is.is
+          ∙ ap (λ (ls : List Said). with_lines_first ls (ends is.last next)) (sym (append-nil lines))
+          ∙ sym (ap (λ (a : After). with_lines_first a.lines (ends is.last a.world)) all);
     }
 
 last_by : (s : Step) (text : List ℕ) (number : ℕ) (w : BusWorld) → IsScriptLine text → said_step (answer text) w ≡ s

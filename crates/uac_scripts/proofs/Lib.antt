@@ -3,7 +3,7 @@ pub mod ScriptTranscriptWholeLemmas
 pub mod ScriptCutLemmas
 pub mod RunLinesLemmas
 pub mod ScriptTranscriptLemmas
-pub mod RunningHandingOnLemmas
-pub mod RunningIdleLemmas
+pub mod LineOutcomesHandingOnLemmas
+pub mod LineOutcomesIdleLemmas
 pub mod DoneScriptLemmas
 pub mod ScriptLemmas

@@ -12,8 +12,6 @@ use Rattle.uac_script.specs.Phrase.{Phrase}
 use Rattle.uac_script.specs.LineParsing.{answer}
 use Rattle.uac_script.proofs.ScriptLinesLemmas.{Cases, is_long, is_line, is_past, is_unended, cases_of, line_end_in}
 use Rattle.uac_transcript.specs.Transcript.{Said}
-use Rattle.uac_transcript.specs.Printing.{text_of}
-use Rattle.uac_transcript.proofs.PrintingLemmas.{text_of-append}
 use Rattle.uac_bus.specs.declared.fault.BusFault.{BusFault}
 use Rattle.uac_bus.specs.BusWorld.{BusWorld, Step, done, start}
 use Rattle.uac_bus.specs.After.{After, after, if_refused, said_step, step_added, with_one_more}
@@ -79,27 +77,28 @@ rest_cut spare bytes h = go (cases_of spare bytes)
 
 -- ---- the lines that were done
 
--- The lines done so far, each with its newline, are the bytes but for what stands after them; the text and the world are what they
+-- The lines done so far, each with its newline, are the bytes but for what stands after them; what was printed and the world are what they
 -- come to, and none was refused.
-pub record HasDone (shown : List Reading) (taken text unread : List ℕ) (w : BusWorld) : Type 0 where
+pub record HasDone (shown : List Reading) (taken : List ℕ) (printed : List Said) (unread : List ℕ) (w : BusWorld) : Type 0 where
   pub texts : List (List ℕ)
   pub lines : AllByRecursion IsScriptLine texts
   pub cut : taken ≡ with_newlines texts ++ unread
-  pub printed : text ≡ text_of (after (map answer texts) (start shown)).lines
+  pub are : printed ≡ (after (map answer texts) (start shown)).lines
   pub reached : w ≡ (after (map answer texts) (start shown)).world
   pub accepted : (after (map answer texts) (start shown)).refusal ≡ None
 
 pub none_done : (shown : List Reading) → HasDone shown [] [] [] (start shown)
 unfolding after
-none_done shown = record { texts = []; lines = tt; cut = refl; printed = refl; reached = refl; accepted = refl }
+none_done shown = record { texts = []; lines = tt; cut = refl; are = refl; reached = refl; accepted = refl }
 
 -- more bytes stand after them
-pub done_more : (shown : List Reading) (taken text unread : List ℕ) (w : BusWorld) (got : List ℕ) → HasDone shown taken text unread w → HasDone shown (taken ++ got) text (unread ++ got) w
-done_more shown taken text unread w got d = record {
+pub done_more : (shown : List Reading) (taken : List ℕ) (printed : List Said) (unread : List ℕ) (w : BusWorld) (got : List ℕ) → HasDone shown taken printed unread w
+    → HasDone shown (taken ++ got) printed (unread ++ got) w
+done_more shown taken printed unread w got d = record {
   texts = d.texts;
   lines = d.lines;
   cut = ap (λ (xs : List ℕ). xs ++ got) d.cut ∙ append_assoc (with_newlines d.texts) unread got;
-  printed = d.printed;
+  are = d.are;
   reached = d.reached;
   accepted = d.accepted;
 }
@@ -117,9 +116,9 @@ done_following : (said : Result Phrase ℕ) (a : After) (next : BusWorld) (more 
 done_following said a next more none is =
     ap (λ (o : Option BusFault). if_refused o a (step_added (said_step said a.world) a)) none ∙ ap (λ (s : Step). step_added s a) is
 
-pub one_more_done : (shown : List Reading) (taken text told rest : List ℕ) (w next : BusWorld) (more : List Said) → HasDone shown taken text (told ++ 10 ∷ rest) w → IsScriptLine told
-    → said_step (answer told) w ≡ done next more → HasDone shown taken (text ++ text_of more) rest next
-one_more_done shown taken text told rest w next more d is_told is =
+pub one_more_done : (shown : List Reading) (taken : List ℕ) (printed : List Said) (told rest : List ℕ) (w next : BusWorld) (more : List Said) → HasDone shown taken printed (told ++ 10 ∷ rest) w → IsScriptLine told
+    → said_step (answer told) w ≡ done next more → HasDone shown taken (printed ++ more) rest next
+one_more_done shown taken printed told rest w next more d is_told is =
     let a : After = after (map answer d.texts) (start shown) in
     let now : After = after (map answer (d.texts ++ told ∷ [])) (start shown) in
     let same : now ≡ step_added (done next more) a =
@@ -130,7 +129,7 @@ one_more_done shown taken text told rest w next more d is_told is =
       texts = d.texts ++ told ∷ [];
       lines = All-push IsScriptLine d.texts told d.lines is_told;
       cut = d.cut ∙ sym (with_one d.texts told rest);
-      printed = ap (λ (t : List ℕ). t ++ text_of more) d.printed ∙ sym (text_of-append a.lines more) ∙ sym (ap (λ (x : After). text_of x.lines) same);
+      are = ap (λ (lines : List Said). lines ++ more) d.are ∙ sym (ap (λ (x : After). x.lines) same);
       reached = sym (ap (λ (x : After). x.world) same);
       accepted = ap (λ (x : After). x.refusal) same ∙ d.accepted;
     }

@@ -13,17 +13,15 @@ use Rattle.uac_script.specs.Phrase.{Phrase}
 use Rattle.uac_script.specs.LineParsing.{answer}
 use Rattle.uac_script.proofs.ScriptLinesLemmas.{head_line, line_end_in}
 use Rattle.uac_script.proofs.SayingLemmas.{each_says_once}
-use Rattle.uac_transcript.specs.Printing.{text_of}
-use Rattle.uac_transcript.proofs.PrintingLemmas.{text_of-append}
 use Rattle.uac_bus.specs.declared.fault.BusFault.{BusFault}
 use Rattle.uac_bus.specs.BusWorld.{BusWorld, Step, done, refused, start}
 use Rattle.uac_bus.specs.After.{After, after, and_then, said_step}
 use Rattle.uac_describe.specs.Outcome.{End}
 use Rattle.uac_edges.specs.TextLines.{with_newlines}
 use Rattle.uac_scripts.specs.Script.{IsScriptLine, go_unless_refused, come_to}
-use Rattle.uac_scripts.specs.ScriptTranscript.{Ending, after_step, with_text_first, ends, last_line}
+use Rattle.uac_scripts.specs.ScriptTranscript.{Ending, after_step, with_lines_first, ends, last_line}
 use Rattle.uac_scripts.specs.Computed.{goes, transcript}
-use Rattle.uac_scripts.proofs.ScriptTranscriptLemmas.{with_text_first-with_text_first, goes_at}
+use Rattle.uac_scripts.proofs.ScriptTranscriptLemmas.{with_lines_first-twice, goes_at}
 
 -- ---- a line stands first
 
@@ -68,16 +66,15 @@ come_to-step : (s : Step) (w : BusWorld) (number : ℕ) (others : BusWorld → A
 come_to-step (done next lines) w number others go on same =
     let rest = others next in
     let count : number + 1 + rest.count ≡ number + (rest.count + 1) = omega arith in
-    ap (with_text_first (text_of lines)) (same next)
-    ∙ with_text_first-with_text_first (text_of lines) (text_of rest.lines) (go_unless_refused rest.refusal (number + 1 + rest.count) rest.world go)
-    ∙ ap (λ (t : List ℕ). with_text_first t (go_unless_refused rest.refusal (number + 1 + rest.count) rest.world go)) (sym (text_of-append lines rest.lines))
-    ∙ ap (λ (n : ℕ). with_text_first (text_of (lines ++ rest.lines)) (go_unless_refused rest.refusal n rest.world go)) count
+    ap (with_lines_first lines) (same next)
+    ∙ with_lines_first-twice lines rest.lines (go_unless_refused rest.refusal (number + 1 + rest.count) rest.world go)
+    ∙ ap (λ (n : ℕ). with_lines_first (lines ++ rest.lines) (go_unless_refused rest.refusal n rest.world go)) count
 come_to-step (refused fault) w number others go on same =
     let here : number ≡ number + 0 = omega arith in
     ap (λ (n : ℕ). ends (last_line fault n) w) here
 
 come_to-same : (a : After) (number : ℕ) (go go' : BusWorld → Ending) → ((v : BusWorld) → go v ≡ go' v) → come_to a number go ≡ come_to a number go'
-come_to-same a number go go' same = ap (with_text_first (text_of a.lines)) (go_unless_refused_same a.refusal (number + a.count) a.world go go' same)
+come_to-same a number go go' same = ap (with_lines_first a.lines) (go_unless_refused_same a.refusal (number + a.count) a.world go go' same)
 
 pub goes_lines : (texts : List (List ℕ)) (spare : ℕ) (rest : List ℕ) (end : End) (number : ℕ) (w : BusWorld) → AllByRecursion IsScriptLine texts → length (with_newlines texts) ≤ spare
     → goes spare (with_newlines texts ++ rest) end number w
@@ -88,17 +85,17 @@ goes_lines [] spare rest end number w are fits =
     let first : number ≡ 0 + number = omega arith in
     ap (λ (n : ℕ). goes n rest end number w) all ∙ ap (λ (n : ℕ). goes (spare - 0) rest end n w) first
 goes_lines (text ∷ texts) spare rest end number w are fits =
-    let with_text_first-it : List ℕ = with_newlines texts ++ rest in
-    let parts : with_newlines (text ∷ texts) ++ rest ≡ text ++ 10 ∷ with_text_first-it =
-    append_assoc (text ++ 10 ∷ []) (with_newlines texts) rest ∙ append_assoc text (10 ∷ []) with_text_first-it in
+    let later : List ℕ = with_newlines texts ++ rest in
+    let parts : with_newlines (text ∷ texts) ++ rest ≡ text ++ 10 ∷ later =
+    append_assoc (text ++ 10 ∷ []) (with_newlines texts) rest ∙ append_assoc text (10 ∷ []) later in
     let size : length (with_newlines (text ∷ texts)) ≡ length text + 1 + length (with_newlines texts) =
     length-append (text ++ 10 ∷ []) (with_newlines texts) ∙ ap (λ (n : ℕ). n + length (with_newlines texts)) (length-append text (10 ∷ [])) in
     let left : spare - (length text + 1) - length (with_newlines texts) ≡ spare - length (with_newlines (text ∷ texts)) = omega (arith, size) in
     let last : length texts + (number + 1) ≡ length (text ∷ texts) + number = omega arith in
     let go : BusWorld → Ending = λ v. goes (spare - length (with_newlines (text ∷ texts))) rest end (length (text ∷ texts) + number) v in
-    let on : BusWorld → Ending = λ next. goes (spare - (length text + 1)) with_text_first-it end (number + 1) next in
+    let on : BusWorld → Ending = λ next. goes (spare - (length text + 1)) later end (number + 1) next in
     ap (λ (bytes : List ℕ). goes spare bytes end number w) parts
-    ∙ goes_at (line text with_text_first-it) spare (text ++ 10 ∷ with_text_first-it) end number w (line_first spare text with_text_first-it are.0 (omega (arith, size)))
+    ∙ goes_at (line text later) spare (text ++ 10 ∷ later) end number w (line_first spare text later are.0 (omega (arith, size)))
     ∙ come_to-step (said_step (answer text) w) w number (after (map answer texts)) go on
     (λ next.
     goes_lines texts (spare - (length text + 1)) rest end (number + 1) next are.1 (omega (arith, size))

@@ -7,9 +7,9 @@ use Rattle.uac_script.specs.LineParsing.{answer}
 use Rattle.uac_script.proofs.ScriptLinesLemmas.{Cases, is_long, is_line, is_past, is_unended, cases_of, line_end_within}
 use Rattle.uac_bus.specs.BusWorld.{BusWorld, Step, done, refused}
 use Rattle.uac_describe.specs.Outcome.{End, at_end, read_failed, read_fault, stopped}
-use Rattle.uac_transcript.specs.Printing.{text_of}
+use Rattle.uac_transcript.specs.Transcript.{Said}
 use Rattle.uac_bus.specs.After.{said_step}
-use Rattle.uac_scripts.specs.ScriptTranscript.{Ending, ends, with_text_first, after_step, ending_at, no_more_text, lines_by}
+use Rattle.uac_scripts.specs.ScriptTranscript.{Ending, ends, with_lines_first, after_step, ending_at, no_more_lines, lines_by}
 use Rattle.uac_scripts.specs.Computed.{rest_done, by_head, goes_within, goes}
 
 -- a line and its newline are some of the bytes, and the rest stands after them
@@ -32,7 +32,7 @@ line_size spare bytes text rest h = go (cases_of spare bytes)
 -- ---- more fuel
 
 pub after_step_same : (s : Step) (number : ℕ) (w : BusWorld) (go go' : BusWorld → Ending) → ((next : BusWorld) → go next ≡ go' next) → after_step s number w go ≡ after_step s number w go'
-after_step_same (done next lines) number w go go' same = ap (with_text_first (text_of lines)) (same next)
+after_step_same (done next lines) number w go go' same = ap (with_lines_first lines) (same next)
 after_step_same (refused fault) number w go go' same = refl
 
 by_head_same : (h : Head) (end : End) (number : ℕ) (w : BusWorld) (go go' : List ℕ → List ℕ → BusWorld → Ending)
@@ -95,11 +95,11 @@ rest_failed [] number w = refl
 rest_failed (b ∷ rest) number w = refl
 
 -- bytes that no newline ends wait for more
-pub waits_for_more : (rest : List ℕ) (number : ℕ) (w : BusWorld) → rest_done rest stopped number w ≡ ends no_more_text w
+pub waits_for_more : (rest : List ℕ) (number : ℕ) (w : BusWorld) → rest_done rest stopped number w ≡ ends no_more_lines w
 waits_for_more [] number w = refl
 waits_for_more (b ∷ rest) number w = refl
 
--- a text and another after it
-pub with_text_first-with_text_first : (a b : List ℕ) (ending : Ending) → with_text_first a (with_text_first b ending) ≡ with_text_first (a ++ b) ending
-with_text_first-with_text_first a b ending =
-    ap (λ (t : List ℕ). let e : Ending = record ending { outcome = record ending.outcome { text = t } } in e) (sym (append_assoc a b ending.outcome.text))
+-- lines and others after them
+pub with_lines_first-twice : (a b : List Said) (ending : Ending) → with_lines_first a (with_lines_first b ending) ≡ with_lines_first (a ++ b) ending
+with_lines_first-twice a b ending =
+    ap (λ (lines : List Said). let e : Ending = record ending { printed = record ending.printed { lines = lines } } in e) (sym (append_assoc a b ending.printed.lines))

@@ -5,12 +5,12 @@ use Rattle.uac_units.specs.Hearing.{Reading}
 use Rattle.uac_script.specs.ScriptLines.{Head, line, long, past, unended, head_of, most_of_input}
 use Rattle.uac_script.specs.LineParsing.{answer}
 use Rattle.uac_script.proofs.ScriptLinesLemmas.{head_line-more, head_long-more, head_past-more}
-use Rattle.uac_transcript.specs.Printing.{text_of}
+use Rattle.uac_transcript.specs.Transcript.{Said}
 use Rattle.uac_bus.specs.BusWorld.{BusWorld, Step, done, refused, start}
 use Rattle.uac_bus.specs.After.{said_step}
 use Rattle.uac_describe.specs.declared.status.Status.TheVariants as statuses
 use Rattle.uac_describe.specs.Outcome.{End, at_end, read_failed, stopped}
-use Rattle.uac_scripts.specs.ScriptTranscript.{Ending, after_step, with_text_first}
+use Rattle.uac_scripts.specs.ScriptTranscript.{Ending, after_step, with_lines_first}
 use Rattle.uac_scripts.specs.Computed.{goes, transcript}
 use Rattle.uac_describe.specs.Closing.{HasEnded, HasNoFault}
 use Rattle.uac_describe.proofs.OutcomeLemmas.{front_of}
@@ -20,20 +20,20 @@ use Rattle.uac_scripts.proofs.ScriptTranscriptLemmas.{goes_at, line_size, waits_
 
 -- its bytes come to no refusal yet, or every longer input comes to the same
 abbrev IsTold : Ending → (List ℕ → End → Ending) → Type 0
-IsTold short longer = (short.outcome.status ≡ statuses.WriteFault) ⊎ ((more : List ℕ) (end : End) → longer more end ≡ short)
+IsTold short longer = (short.printed.status ≡ statuses.WriteFault) ⊎ ((more : List ℕ) (end : End) → longer more end ≡ short)
 
-told_after : (text : List ℕ) (short : Ending) (longer : List ℕ → End → Ending) → IsTold short longer → IsTold (with_text_first text short) (λ more end. with_text_first text (longer more end))
-told_after text short longer (inl waits) = inl waits
-told_after text short longer (inr same) = inr (λ more end. ap (with_text_first text) (same more end))
+told_after : (lines : List Said) (short : Ending) (longer : List ℕ → End → Ending) → IsTold short longer → IsTold (with_lines_first lines short) (λ more end. with_lines_first lines (longer more end))
+told_after lines short longer (inl waits) = inl waits
+told_after lines short longer (inr same) = inr (λ more end. ap (with_lines_first lines) (same more end))
 
 told_step : (s : Step) (number : ℕ) (w : BusWorld) (go : BusWorld → Ending) (longer : List ℕ → End → BusWorld → Ending)
     → ((next : BusWorld) → IsTold (go next) (λ more end. longer more end next)) → IsTold (after_step s number w go) (λ more end. after_step s number w (longer more end))
-told_step (done next lines) number w go longer told = told_after (text_of lines) (go next) (λ more end. longer more end next) (told next)
+told_step (done next lines) number w go longer told = told_after lines (go next) (λ more end. longer more end next) (told next)
 told_step (refused fault) number w go longer told = inr (λ more end. refl)
 
 told_same : (short short' : Ending) (longer longer' : List ℕ → End → Ending) → short' ≡ short → ((more : List ℕ) (end : End) → longer' more end ≡ longer more end)
     → IsTold short longer → IsTold short' longer'
-told_same short short' longer longer' same each (inl waits) = inl (ap (λ (e : Ending). e.outcome.status) same ∙ waits)
+told_same short short' longer longer' same each (inl waits) = inl (ap (λ (e : Ending). e.printed.status) same ∙ waits)
 told_same short short' longer longer' same each (inr stays) = inr (λ more end. each more end ∙ stays more end ∙ sym same)
 
 -- by what stands first, where that is told of what stands after a line
@@ -54,7 +54,7 @@ told_by long spare bytes number w is on =
 told_by past spare bytes number w is on =
     inr (λ more end. goes_at past spare (bytes ++ more) end number w (head_past-more spare bytes more is) ∙ sym (goes_at past spare bytes stopped number w is))
 told_by (unended text) spare bytes number w is on =
-    inl (ap (λ (e : Ending). e.outcome.status) (goes_at (unended text) spare bytes stopped number w is ∙ waits_for_more text number w))
+    inl (ap (λ (e : Ending). e.printed.status) (goes_at (unended text) spare bytes stopped number w is ∙ waits_for_more text number w))
 
 goes_told : (n spare : ℕ) (bytes : List ℕ) (number : ℕ) (w : BusWorld) → length bytes < n
     → IsTold (goes spare bytes stopped number w) (λ more end. goes spare (bytes ++ more) end number w)
@@ -68,7 +68,7 @@ unfolding transcript
 transcript_told shown taken = goes_told (suc (length taken)) most_of_input taken 1 (start shown) (omega arith)
 
 -- a script that stopped elsewhere than at a failed write comes to what every longer one comes to
-pub transcript_stays : (shown : List Reading) (taken more : List ℕ) (end : End) → (transcript shown taken stopped).outcome.status ≢ statuses.WriteFault
+pub transcript_stays : (shown : List Reading) (taken more : List ℕ) (end : End) → (transcript shown taken stopped).printed.status ≢ statuses.WriteFault
     → transcript shown (taken ++ more) end ≡ transcript shown taken stopped
 transcript_stays shown taken more end other = elim (transcript_told shown taken) [
   | inl waits ↦ absurd (other waits)
@@ -80,7 +80,7 @@ transcript_stays shown taken more end other = elim (transcript_told shown taken)
 -- what the lines that were taken come to is what all lines come to, where no read and no write failed
 pub done_once : (shown : List Reading) (bytes taken : List ℕ) (left left' : Option (List ℕ)) (reads reads' : ℕ) (end : End)
     → left ≡ Some bytes → Consumes left left' taken → HasNoFault reads reads' → HasEnded end left' reads reads'
-    → (transcript shown taken end).outcome.status ≢ statuses.WriteFault → transcript shown bytes at_end ≡ transcript shown taken end
+    → (transcript shown taken end).printed.status ≢ statuses.WriteFault → transcript shown bytes at_end ≡ transcript shown taken end
 done_once shown bytes taken left left' reads reads' at_end is consumed rests ended other =
     let front = front_of left left' bytes taken is consumed in ap (λ (bs : List ℕ). transcript shown bs at_end) (sym (front.whole ended.0))
 done_once shown bytes taken left left' reads reads' read_failed is consumed rests ended other = absurd (rests ended)

@@ -7,4 +7,4 @@ pub mod DoneScript
 -- What the laws say besides.
 pub mod Computed
 -- What the contracts below them cite: steps of the code, no part of what is promised.
-pub mod Running
+pub mod LineOutcomes

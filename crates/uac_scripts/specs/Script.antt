@@ -7,13 +7,12 @@ use Rattle.uac_script.specs.ScriptLines.{most_of_line}
 use Rattle.uac_script.specs.Phrase.{Phrase}
 use Rattle.uac_script.specs.Line.{Says}
 use Rattle.uac_units.specs.Hearing.{Reading}
-use Rattle.uac_transcript.specs.Printing.{text_of}
 use Rattle.uac_bus.specs.declared.fault.BusFault.{BusFault}
 use Rattle.uac_bus.specs.BusWorld.{BusWorld, start}
 use Rattle.uac_bus.specs.BusKept.{may_want}
 use Rattle.uac_bus.specs.After.{After, after}
 use Rattle.uac_describe.specs.Outcome.{no_memory}
-use Rattle.uac_scripts.specs.ScriptTranscript.{Ending, with_text_first, ends, last_line}
+use Rattle.uac_scripts.specs.ScriptTranscript.{Ending, with_lines_first, ends, last_line}
 
 -- a line's bytes: at most 4,096, none of them a newline
 pub record IsScriptLine (text : List ℕ) : Type 0 where
@@ -25,9 +24,9 @@ abbrev pub go_unless_refused : Option BusFault → ℕ → BusWorld → (BusWorl
 go_unless_refused None number w go = go w
 go_unless_refused (Some fault) number w go = ends (last_line fault number) w
 
--- what lines come to of which the first has this number: their text, and then what stands after them
+-- what lines come to of which the first has this number: what they print, and then what stands after them
 abbrev pub come_to : After → ℕ → (BusWorld → Ending) → Ending
-come_to a number go = with_text_first (text_of a.lines) (go_unless_refused a.refusal (number + a.count) a.world go)
+come_to a number go = with_lines_first a.lines (go_unless_refused a.refusal (number + a.count) a.world go)
 
 -- the bytes after a line: none, or its newline and what follows
 abbrev pub EndsLine : List ℕ → Type 0
@@ -38,8 +37,8 @@ abbrev pub wants : Result Phrase ℕ → BusWorld → Bool
 wants (Ok phrase) w = may_want phrase w
 wants (Err rule) w = false
 
--- Memory was wanted at a line: those in front of it were done, by what each says, it says one that takes memory, and after their text
--- stands `no memory`.
+-- Memory was wanted at a line: those in front of it were done, by what each says, it says one that takes memory, and after what they
+-- printed stands `no memory`.
 pub record IsWanted (shown : List Reading) (taken : List ℕ) (ending : Ending) : Type 0 where
   pub texts : List (List ℕ)
   pub text : List ℕ
@@ -54,4 +53,4 @@ pub record IsWanted (shown : List Reading) (taken : List ℕ) (ending : Ending) 
   pub said : Result Phrase ℕ
   pub says : Says text said
   pub takes : wants said (after saids (start shown)).world ≡ true
-  pub is : ending ≡ with_text_first (text_of (after saids (start shown)).lines) (ends no_memory (after saids (start shown)).world)
+  pub is : ending ≡ with_lines_first (after saids (start shown)).lines (ends no_memory (after saids (start shown)).world)

@@ -9,8 +9,8 @@ use Rattle.uac_describe.specs.declared.status.Status.{Status}
 use Rattle.uac_describe.specs.declared.status.Status.TheVariants as statuses
 use Rattle.uac_describe.specs.SourceParsing.{StopsThere}
 use Rattle.uac_describe.specs.Closing.{Closes, HasEnded}
-use Rattle.uac_describe.specs.Outcome.{End, stopped, Outcome, no_memory, IsOutcomeOf}
-use Rattle.uac_scripts.specs.ScriptTranscript.{Ending, IsTranscript, no_more_text}
+use Rattle.uac_describe.specs.Outcome.{End, stopped, Outcome, no_memory, outcome_of, IsOutcomeOf}
+use Rattle.uac_scripts.specs.ScriptTranscript.{Ending, IsTranscript, no_more_lines}
 use Rattle.uac_scripts.specs.Script.{IsWanted}
 use Rattle.uac_scripts.specs.DoneScript.{IsDoneScript}
 
@@ -21,7 +21,7 @@ pub record StopsAtRefusal (shown : List Reading) (taken : List ℕ) : Type 0 whe
   pub parts : taken ≡ front ++ piece
   pub ending : Ending
   pub so_far : IsTranscript shown front stopped ending
-  pub going : ending.outcome.status ≡ no_more_text.status
+  pub going : ending.printed.status ≡ no_more_lines.status
   pub short : length piece ≤ script_piece
 
 -- How many bytes are taken past what decides: of a descriptor all but at most the last 4,096 show no fault; and of a script none of the
@@ -35,42 +35,35 @@ IsPrompt (Some Run) shown taken = (length taken ≤ most_of_input + 1) × StopsA
 abbrev pub usage : Outcome
 usage = record { text = codes "usage: uac_cli check|show|elements|run|gen NUMBER|settle [--rack plain|lanes]\n"; status = statuses.Usage }
 
--- What is said by the command: of a descriptor what its bytes tell; and words that are no command take nothing and give the usage line.
--- `run` has no such outcome: it prints lines of its own.
-abbrev pub IsOutcome : Option SourceJob → List ℕ → End → Outcome → Type 0
-IsOutcome None taken end outcome = (taken ≡ []) × (outcome ≡ usage)
-IsOutcome (Some (Describe description)) taken end outcome = IsOutcomeOf description taken end outcome
-IsOutcome (Some Run) taken end outcome = ⊥
+-- What a script comes to, by what was taken and why no more was: its transcript, or memory was wanted at a line that takes some. It
+-- goes line by line, and while what its lines give is steady, each line that they print is as promised. The text is that of these lines.
+pub record IsScriptRun (shown : List Reading) (taken : List ℕ) (end : End) (outcome : Outcome) (meters : List Reading) : Type 0 where
+  pub ending : Ending
+  pub meant : IsTranscript shown taken end ending ⊎ IsWanted shown taken ending
+  pub lived : IsDoneScript shown taken ending
+  pub printed : outcome ≡ outcome_of ending.printed
+  pub heard : meters ≡ ending.meters
 
--- What a call comes to, with meters that show this at first.
-abbrev pub IsEnding : Option SourceJob → List Reading → List ℕ → End → Ending → Type 0
-IsEnding (Some Run) shown taken end ending = IsTranscript shown taken end ending
-IsEnding command shown taken end ending = IsOutcome command taken end ending.outcome × (ending.meters ≡ shown)
+-- What a call comes to, with meters that show this at first: words that are no command take nothing and give the usage line; of a
+-- descriptor is said what its bytes tell, or memory was wanted, and then `no memory` is the whole text; and a script is run.
+abbrev pub IsEnding : Option SourceJob → List Reading → List ℕ → End → Outcome → List Reading → Type 0
+IsEnding None shown taken end outcome meters = (taken ≡ []) × (outcome ≡ usage) × (meters ≡ shown)
+IsEnding (Some (Describe description)) shown taken end outcome meters =
+    (IsOutcomeOf description taken end outcome ⊎ (outcome ≡ outcome_of no_memory)) × (meters ≡ shown)
+IsEnding (Some Run) shown taken end outcome meters = IsScriptRun shown taken end outcome meters
 
--- Memory was wanted: for a descriptor, and then `no memory` is the whole text; or at a line of a script that takes some.
-abbrev pub WantsMemory : Option SourceJob → List Reading → List ℕ → Ending → Type 0
-WantsMemory None shown taken ending = ⊥
-WantsMemory (Some (Describe description)) shown taken ending = ending ≡ record { outcome = no_memory; meters = shown }
-WantsMemory (Some Run) shown taken ending = IsWanted shown taken ending
-
--- A script's run goes line by line, and while what its lines give is steady, each line that they print is as promised.
-abbrev pub IsDoneScriptFor : Option SourceJob → List Reading → List ℕ → Ending → Type 0
-IsDoneScriptFor None shown taken ending = Unit {0}
-IsDoneScriptFor (Some (Describe description)) shown taken ending = Unit {0}
-IsDoneScriptFor (Some Run) shown taken ending = IsDoneScript shown taken ending
-
--- The bytes that were taken, why no more were, and what they come to; or memory was wanted. Unless
--- a write failed, the meters show at the end what they show in the world after the lines done; where no script runs they hear nothing.
+-- The bytes that were taken, why no more were, and what they come to. Unless a write failed, the meters show at the end what they show in
+-- the world after the lines done; where no script runs they hear nothing.
 pub record IsRun (command : Option SourceJob) (shown shown' : List Reading) (left left' : Option (List ℕ)) (reads reads' : ℕ)
     (written written' : Option (List ℕ)) (writes writes' : ℕ) (status : Status) : Type 0 where
   pub taken : List ℕ
   pub end : End
-  pub ending : Ending
+  pub outcome : Outcome
+  pub meters : List Reading
   pub consumed : Consumes left left' taken
   pub ended : HasEnded end left' reads reads'
   pub prompt : IsPrompt command shown taken
-  pub meant : IsEnding command shown taken end ending ⊎ WantsMemory command shown taken ending
-  pub lived : IsDoneScriptFor command shown taken ending
-  pub closed : Closes ending.outcome written written' writes writes' status
-  pub heard : status ≢ statuses.WriteFault → shown' ≡ ending.meters
+  pub meant : IsEnding command shown taken end outcome meters
+  pub closed : Closes outcome written written' writes writes' status
+  pub heard : status ≢ statuses.WriteFault → shown' ≡ meters
   pub unheard : command ≢ Some Run → shown' ≡ shown

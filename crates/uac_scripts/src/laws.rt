@@ -14,7 +14,7 @@ ghost use Rattle.uac_edges.specs.TextLines.{with_newlines};
 ghost use Rattle.uac_scripts.specs.Script.{IsScriptLine, come_to};
 ghost use Rattle.uac_scripts.specs.Computed.{HasOneTranscript, goes, transcript};
 
-/// The transcript of bytes that are lines and a rest: the text of what the lines come to one after the other, by what each says,
+/// The transcript of bytes that are lines and a rest: what the lines print one after the other, by what each says,
 /// up to the first refusal, which names its line; and where none is refused, then what the rest comes to in the world that they leave.
 #[tactic(auto, using(crate::proofs::ScriptLemmas::script_lines))]
 pub fn script_is_its_lines()
@@ -34,11 +34,11 @@ pub fn script_is_what_its_lines_say()
         ≡ come_to (after saids (start shown)) 1 (λ w. goes (most_of_input - length (with_newlines texts)) rest end (length texts + 1) w) }
 {}
 
-/// A refusal that stands in the bytes of a script is that of every longer script that begins with them: text, status and meters are
+/// A refusal that stands in the bytes of a script is that of every longer script that begins with them: lines, status and meters are
 /// the same. (Where nothing is refused yet, the bytes alone come to no last line.)
 #[tactic(auto, using(crate::proofs::ScriptTranscriptWholeLemmas::transcript_stays))]
 pub fn refusal_stays()
-    ensures { (shown : List Reading) (taken more : List ℕ) (end : End) → (transcript shown taken stopped).outcome.status ≢ Status.WriteFault
+    ensures { (shown : List Reading) (taken more : List ℕ) (end : End) → (transcript shown taken stopped).printed.status ≢ Status.WriteFault
         → transcript shown (taken ++ more) end ≡ transcript shown taken stopped }
 {}
 

@@ -13,8 +13,9 @@ ghost use Rattle.uac_bus.specs.After.{said_step};
 ghost use Rattle.uac_bus.specs.BusKept.{BusStands};
 ghost use Rattle.uac_scripts.specs.declared.jobs.SourceJob.TheVariants.{Run};
 ghost use Rattle.uac_describe.specs.Closing.{IsFaultless, Closes};
+ghost use Rattle.uac_describe.specs.Outcome.{outcome_of};
 ghost use Rattle.uac_scripts.specs.ScriptRun.{IsRun};
-ghost use Rattle.uac_scripts.specs.Running.{DoesScriptLine, stop_outcome};
+ghost use Rattle.uac_scripts.specs.LineOutcomes.{DoesScriptLine, stop_line};
 ghost use Rattle.uac_scripts.specs.Script.{wants};
 ghost use Rattle.uac_scripts.specs.ScriptTranscript.{last_line, ending_at};
 
@@ -22,7 +23,7 @@ use crate::lines::{TOO_LONG, misread_line};
 use std::alloc::Global;
 use uac_bus::{Bus, BusFault};
 use uac_describe::{NO_MEMORY, READ_FAULT, Status, close, refusal_line, unsound_line};
-use uac_edges::{Failed, Sink, Source};
+use uac_edges::{Sink, Source};
 use uac_script::{LentLine, LineRoom, LineStop, Lines, Next, is_idle};
 use uac_units::{Meter, Meters, Rack, Unit};
 
@@ -152,15 +153,13 @@ fn hand_on_line<K: Sink>(sink: &mut K) -> Result<(), BusFault>
     ensures fault { IfErr result (λ fault. fault ≡ BusFault.WriteFault) }
     ensures cause { OnErr result (Rose (K.faults sink.old) (K.faults sink.new)) }
 {
-    match sink.settle() {
-        Ok(()) => Ok(()),
-        Err(Failed) => Err(BusFault::WriteFault),
-    }
+    sink.settle()?;
+    Ok(())
 }
 
 /// Prints why the line with this number was refused. After a write that failed nothing is printed.
 fn refuse_line<K: Sink>(fault: BusFault, number: u64, sink: &mut K) -> Status
-    ensures closed { Closes (last_line fault number) (K.written sink.old) (K.written sink.new) (K.faults sink.old)
+    ensures closed { Closes (outcome_of (last_line fault number)) (K.written sink.old) (K.written sink.new) (K.faults sink.old)
         (K.faults sink.new) result }
     ensures never_ok { result ≢ Status.Ok }
     ensures never_read { result ≢ Status.ReadFault }
@@ -190,7 +189,7 @@ fn refuse_line<K: Sink>(fault: BusFault, number: u64, sink: &mut K) -> Status
 
 /// Prints why there is no next line; `number` is that of a line that is too long.
 fn stop_lines<K: Sink>(stop: LineStop, number: u64, sink: &mut K) -> Status
-    ensures closed { Closes (stop_outcome stop number) (K.written sink.old) (K.written sink.new) (K.faults sink.old)
+    ensures closed { Closes (outcome_of (stop_line stop number)) (K.written sink.old) (K.written sink.new) (K.faults sink.old)
         (K.faults sink.new) result }
     ensures never_ok { result ≢ Status.Ok }
     ensures read { result ≡ Status.ReadFault → stop ≡ LineStop.Failed }
@@ -206,7 +205,8 @@ fn stop_lines<K: Sink>(stop: LineStop, number: u64, sink: &mut K) -> Status
 /// The script's end, where the next line would have this number.
 fn finish<K: Sink>(bus: &Bus, number: u64, sink: &mut K) -> Status
     ensures closed { (meters : List Reading) (w : BusWorld) → BusStands bus.now meters w
-        → Closes (ending_at number w).outcome (K.written sink.old) (K.written sink.new) (K.faults sink.old) (K.faults sink.new) result }
+        → Closes (outcome_of (ending_at number w).printed) (K.written sink.old) (K.written sink.new) (K.faults sink.old)
+        (K.faults sink.new) result }
     ensures never_read { result ≢ Status.ReadFault }
     ensures cause { (meters : List Reading) (w : BusWorld) → BusStands bus.now meters w → result ≡ Status.WriteFault
         → Rose (K.faults sink.old) (K.faults sink.new) }

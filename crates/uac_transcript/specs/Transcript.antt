@@ -65,6 +65,16 @@ pub data Said : Type 0 where
   says_meter : Reading → Said
   -- how many units were rendered
   says_renders : ℕ → Said
+  -- the last line of a run that stops: a line of the script breaks this rule, and has this number
+  says_misread : ℕ → ℕ → Said
+  -- the descriptor breaks this rule of the grammar, at this place
+  says_refused : ℕ → ℕ → Said
+  -- it breaks this rule of the topology, at an interface or else at an entity, which has this number
+  says_unsound : ℕ → Bool → ℕ → Said
+  -- there was no memory, a read failed, and the input is longer than one may be
+  says_no_memory : Said
+  says_read_fault : Said
+  says_too_long : Said
 
 -- ---- words of a line
 
@@ -94,6 +104,10 @@ meter_name Sum = codes "sum"
 abbrev pub hex_or_dash : List ℕ → List ℕ
 hex_or_dash [] = codes "-"
 hex_or_dash (b ∷ bytes) = encode_lower (b ∷ bytes)
+
+abbrev pub offender_text : Bool → List ℕ
+offender_text true = codes " interface "
+offender_text false = codes " entity "
 
 -- a space and a sample, for each
 abbrev pub samples_text : List ℤ → List ℕ
@@ -147,3 +161,10 @@ spelling_of (says_in_stream interface setting level met) =
     ++ codes " over " ++ decimal met.over ++ codes " lost " ++ decimal met.lost ++ codes "\n"
 spelling_of (says_meter reading) = codes "meter " ++ meter_name reading.kind ++ codes " " ++ decimal reading.value ++ codes "\n"
 spelling_of (says_renders count) = codes "renders " ++ decimal count ++ codes "\n"
+spelling_of (says_misread rule number) = codes "script S" ++ decimal rule ++ codes " line " ++ decimal number ++ codes "\n"
+spelling_of (says_refused rule place) = codes "descriptor G" ++ decimal rule ++ codes " at " ++ decimal place ++ codes "\n"
+spelling_of (says_unsound rule interface offender) =
+    codes "descriptor U" ++ decimal rule ++ offender_text interface ++ decimal offender ++ codes "\n"
+spelling_of says_no_memory = codes "no memory\n"
+spelling_of says_read_fault = codes "read fault\n"
+spelling_of says_too_long = codes "input too long\n"

@@ -1,4 +1,5 @@
 use Rattle.std.proofs.Common.{ap, refl}
+use Rattle.uac_describe.proofs.AnsweredLemmas.{closes_memory}
 use Rattle.uac_cli.proofs.ProgramLemmas.{asked_words, call_asked, whole_asked, end_asked, call_unread}
 use Rattle.uac_cli.proofs.program.run_program.Goals as goal
 
@@ -17,7 +18,7 @@ returns-in-Ok-run_in_boxes-clause-complete g c =
 pub returns-in-Ok-clause-call : goal.returns-in-Ok-clause-call
 returns-in-Ok-clause-call g c =
     let lost = c.in-Err-run_in_boxes.ensures in
-    call_unread _ _ _ _ _ _ _ _ _ _ _ _ (ap g.S.Source.left lost.untaken) (ap g.S.Source.faults lost.untaken) (ap g.K.Sink.written lost.unwritten) (ap g.K.Sink.faults lost.unwritten) c.conclude.ensures.closed
+    call_unread _ _ _ _ _ _ _ _ _ _ _ _ (ap g.S.Source.left lost.untaken) (ap g.S.Source.faults lost.untaken) (ap g.K.Sink.written lost.unwritten) (ap g.K.Sink.faults lost.unwritten) (closes_memory _ _ _ _ _ c.conclude.ensures.closed)
 
 pub returns-clause-call : goal.returns-clause-call
-returns-clause-call g c = call_unread _ _ _ _ _ _ _ _ _ _ _ _ refl refl refl refl c.conclude-in-Err.ensures.closed
+returns-clause-call g c = call_unread _ _ _ _ _ _ _ _ _ _ _ _ refl refl refl refl (closes_memory _ _ _ _ _ c.conclude-in-Err.ensures.closed)

@@ -1,6 +1,7 @@
 use Rattle.std.proofs.Common.{sym, ◌∙◌}
-use Rattle.uac_describe.specs.Outcome.{no_memory}
+use Rattle.uac_describe.specs.Outcome.{no_memory, outcome_of}
 use Rattle.uac_scripts.specs.ScriptRun.{usage}
+use Rattle.uac_describe.proofs.AnsweredLemmas.{closes_memory}
 use Rattle.uac_describe.proofs.HandingOnLemmas.{faultless_on, status_before}
 use Rattle.uac_cli.proofs.CallLemmas.{done_call, usage_call, unread_call, read_to_end, ok_is_no_write, read_is_no_write}
 use Rattle.uac_cli.proofs.CallLemmas.{usage_refuses, memory_refuses, refused_cause, refused_unread, refused_faultless, refused_end}
@@ -75,31 +76,31 @@ returns-in-Err-Usage-clause-handed_on g c = c.conclude.ensures.handed_on
 -- ---- there was no memory to read them
 
 pub returns-in-Err-NoMemory-clause-call : goal.returns-in-Err-NoMemory-clause-call
-returns-in-Err-NoMemory-clause-call g c = unread_call _ _ _ _ _ _ _ _ _ c.conclude-in-Err-NoMemory.ensures.closed
+returns-in-Err-NoMemory-clause-call g c = unread_call _ _ _ _ _ _ _ _ _ (closes_memory _ _ _ _ _ c.conclude-in-Err-NoMemory.ensures.closed)
 
 pub returns-in-Err-NoMemory-clause-read_fault : goal.returns-in-Err-NoMemory-clause-read_fault
 returns-in-Err-NoMemory-clause-read_fault g c =
-    refused_unread no_memory memory_refuses (g.K.Sink.written c.args.sink.now) (g.K.Sink.written c.conclude-in-Err-NoMemory.new.sink)
+    refused_unread (outcome_of no_memory) memory_refuses (g.K.Sink.written c.args.sink.now) (g.K.Sink.written c.conclude-in-Err-NoMemory.new.sink)
     (g.K.Sink.faults c.args.sink.now) (g.K.Sink.faults c.conclude-in-Err-NoMemory.new.sink)
-    c.conclude-in-Err-NoMemory.result c.conclude-in-Err-NoMemory.ensures.closed _
+    c.conclude-in-Err-NoMemory.result (closes_memory _ _ _ _ _ c.conclude-in-Err-NoMemory.ensures.closed) _
 
 pub returns-in-Err-NoMemory-clause-write_fault : goal.returns-in-Err-NoMemory-clause-write_fault
 returns-in-Err-NoMemory-clause-write_fault g c =
-    refused_cause no_memory memory_refuses (g.K.Sink.written c.args.sink.now) (g.K.Sink.written c.conclude-in-Err-NoMemory.new.sink)
+    refused_cause (outcome_of no_memory) memory_refuses (g.K.Sink.written c.args.sink.now) (g.K.Sink.written c.conclude-in-Err-NoMemory.new.sink)
     (g.K.Sink.faults c.args.sink.now) (g.K.Sink.faults c.conclude-in-Err-NoMemory.new.sink)
-    c.conclude-in-Err-NoMemory.result c.conclude-in-Err-NoMemory.ensures.closed
+    c.conclude-in-Err-NoMemory.result (closes_memory _ _ _ _ _ c.conclude-in-Err-NoMemory.ensures.closed)
 
 pub returns-in-Err-NoMemory-clause-faultless : goal.returns-in-Err-NoMemory-clause-faultless
 returns-in-Err-NoMemory-clause-faultless g c =
-    refused_faultless no_memory memory_refuses (g.K.Sink.written c.args.sink.now) (g.K.Sink.written c.conclude-in-Err-NoMemory.new.sink)
+    refused_faultless (outcome_of no_memory) memory_refuses (g.K.Sink.written c.args.sink.now) (g.K.Sink.written c.conclude-in-Err-NoMemory.new.sink)
     (g.K.Sink.faults c.args.sink.now) (g.K.Sink.faults c.conclude-in-Err-NoMemory.new.sink)
-    c.conclude-in-Err-NoMemory.result c.conclude-in-Err-NoMemory.ensures.closed _
+    c.conclude-in-Err-NoMemory.result (closes_memory _ _ _ _ _ c.conclude-in-Err-NoMemory.ensures.closed) _
 
 pub returns-in-Err-NoMemory-clause-ok : goal.returns-in-Err-NoMemory-clause-ok
 returns-in-Err-NoMemory-clause-ok g c =
-    refused_end no_memory memory_refuses (g.K.Sink.written c.args.sink.now) (g.K.Sink.written c.conclude-in-Err-NoMemory.new.sink)
+    refused_end (outcome_of no_memory) memory_refuses (g.K.Sink.written c.args.sink.now) (g.K.Sink.written c.conclude-in-Err-NoMemory.new.sink)
     (g.K.Sink.faults c.args.sink.now) (g.K.Sink.faults c.conclude-in-Err-NoMemory.new.sink)
-    c.conclude-in-Err-NoMemory.result c.conclude-in-Err-NoMemory.ensures.closed _ _
+    c.conclude-in-Err-NoMemory.result (closes_memory _ _ _ _ _ c.conclude-in-Err-NoMemory.ensures.closed) _ _
 
 pub returns-in-Err-NoMemory-clause-complete : goal.returns-in-Err-NoMemory-clause-complete
 returns-in-Err-NoMemory-clause-complete g c =

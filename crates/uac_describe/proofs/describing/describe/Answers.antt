@@ -1,7 +1,7 @@
 use Rattle.std.proofs.Common.{subst, sym}
 use Rattle.uac_descriptor.specs.WellFormed.{AreWellFormed}
-use Rattle.uac_describe.specs.Outcome.{read_fault}
-use Rattle.uac_describe.proofs.AnsweredLemmas.{judged_run, refused_run, failed_run, closes_faultless, told_status, refuses_faultless}
+use Rattle.uac_describe.specs.Outcome.{outcome_of, read_fault}
+use Rattle.uac_describe.proofs.AnsweredLemmas.{judged_run, refused_run, failed_run, closes_faultless, closes_read_fault, told_status, refuses_faultless}
 use Rattle.uac_describe.proofs.describing.describe.Goals as goal
 
 pub returns-in-Whole-clause-answered : goal.returns-in-Whole-clause-answered
@@ -11,7 +11,7 @@ pub returns-in-Stopped-clause-answered : goal.returns-in-Stopped-clause-answered
 returns-in-Stopped-clause-answered g c = refused_run _ _ _ _ _ _ _ _ _ c.args.description _ c.in-Stopped.ensures.reads (c.in-Stopped.ensures.faultless (λ e. cc)) c.refuse.ensures
 
 pub returns-in-Failed-clause-answered : goal.returns-in-Failed-clause-answered
-returns-in-Failed-clause-answered g c = failed_run _ _ _ _ _ _ _ _ _ c.args.description c.in-Failed.ensures.reads c.close.ensures
+returns-in-Failed-clause-answered g c = failed_run _ _ _ _ _ _ _ _ _ c.args.description c.in-Failed.ensures.reads (closes_read_fault _ _ _ _ _ c.close.ensures)
 
 pub returns-in-Whole-clause-faultless : goal.returns-in-Whole-clause-faultless
 returns-in-Whole-clause-faultless g c = λ unread unwritten. (
@@ -29,8 +29,8 @@ returns-in-Stopped-clause-faultless g c = λ unread unwritten. (
 
 pub returns-in-Failed-clause-faultless : goal.returns-in-Failed-clause-faultless
 returns-in-Failed-clause-faultless g c = λ unread unwritten.
-    absurd (told_status read_fault (g.K.Sink.written c.args.sink.now) (g.K.Sink.written c.close.new.sink) (g.K.Sink.faults c.args.sink.now) (g.K.Sink.faults c.close.new.sink) c.close.result
-    c.close.ensures unread unwritten)
+    absurd (told_status (outcome_of read_fault) (g.K.Sink.written c.args.sink.now) (g.K.Sink.written c.close.new.sink) (g.K.Sink.faults c.args.sink.now) (g.K.Sink.faults c.close.new.sink) c.close.result
+    (closes_read_fault _ _ _ _ _ c.close.ensures) unread unwritten)
 
 pub judge-requires : goal.judge-requires
 judge-requires g c =

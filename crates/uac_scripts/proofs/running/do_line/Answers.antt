@@ -8,9 +8,9 @@ use Rattle.uac_bus.specs.declared.fault.BusFault.{BusFault}
 use Rattle.uac_bus.specs.BusWorld.{BusWorld}
 use Rattle.uac_bus.specs.After.{said_step}
 use Rattle.uac_bus.specs.BusKept.{BusFields}
-use Rattle.uac_scripts.specs.Running.{DoesScriptLine}
+use Rattle.uac_scripts.specs.LineOutcomes.{DoesScriptLine}
 use Rattle.uac_scripts.specs.Script.{wants}
-use Rattle.uac_scripts.proofs.RunningIdleLemmas.{idle_done}
+use Rattle.uac_scripts.proofs.LineOutcomesIdleLemmas.{idle_done}
 use Rattle.uac_scripts.proofs.running.do_line.Goals as goal
 
 -- what was done of what a text says, said of the text

@@ -1,6 +1,6 @@
 use Rattle.std.proofs.Common.{ap}
 use Rattle.uac_units.specs.MeterReadings.{readings}
-use Rattle.uac_scripts.proofs.RunningHandingOnLemmas.{line_failed, line_handed_on}
+use Rattle.uac_scripts.proofs.LineOutcomesHandingOnLemmas.{line_failed, line_handed_on}
 use Rattle.uac_scripts.proofs.running.do_said.Goals as goal
 
 pub returns-in-Ok-lent_line-clause-does : goal.returns-in-Ok-lent_line-clause-does

@@ -1,7 +1,8 @@
 use Rattle.std.proofs.Common.{◌≡◌, ◌+◌, ◌∙◌, Ok, Err, refl, ap, arith}
 use Rattle.uac_script.specs.ScriptLines.{Splitting}
 use Rattle.uac_units.specs.MeterReadings.{readings}
-use Rattle.uac_scripts.specs.Running.{stop_outcome}
+use Rattle.uac_describe.specs.Outcome.{outcome_of}
+use Rattle.uac_scripts.specs.LineOutcomes.{stop_line}
 use Rattle.uac_scripts.specs.ScriptTranscript.{ending_at, last_line}
 use Rattle.uac_scripts.proofs.RunLinesLemmas.{far_at_first, not_ended, has_line, far_on, failed_line, finished_run, stopped_run, left_faultless, stop_untold}
 use Rattle.uac_describe.proofs.AnsweredLemmas.{closes_faultless}
@@ -64,7 +65,7 @@ returns-in-Err-do_line-clause-faultless g c = λ unread unwritten.
     (readings (λ v x. (goal.Meter-dyn g (v, x)).reading_of x) c.do_line.new.meters) (g.K.Sink.written c.loop-bus.sink) (g.K.Sink.written c.do_line.new.sink) (g.K.Sink.faults c.loop-bus.sink) (g.K.Sink.faults c.do_line.new.sink)
     does.1 (λ e. unwritten (c.refuse_line.ensures.silent e).0) in (
       c.in-Ok-Line.ensures.faultless (λ e. cc) ∙ i.reads,
-      closes_faultless (last_line c.in-Err-do_line.fault c.number.result) (g.K.Sink.written c.do_line.new.sink) (g.K.Sink.written c.refuse_line.new.sink) (g.K.Sink.faults c.do_line.new.sink) (g.K.Sink.faults c.refuse_line.new.sink) c.refuse_line.result
+      closes_faultless (outcome_of (last_line c.in-Err-do_line.fault c.number.result)) (g.K.Sink.written c.do_line.new.sink) (g.K.Sink.written c.refuse_line.new.sink) (g.K.Sink.faults c.do_line.new.sink) (g.K.Sink.faults c.refuse_line.new.sink) c.refuse_line.result
           c.refuse_line.ensures.closed unwritten ∙ left ∙ i.writes,
     )
 
@@ -73,7 +74,7 @@ pub returns-in-Ok-End-clause-faultless : goal.returns-in-Ok-End-clause-faultless
 returns-in-Ok-End-clause-faultless g c = λ unread unwritten.
     let i = c.loop-bus.invariant in (
       c.in-Ok-End.ensures.faultless (λ e. cc) ∙ i.reads,
-      closes_faultless (ending_at (c.number-in-Ok-End.result + 1) i.far.world).outcome (g.K.Sink.written c.loop-bus.sink) (g.K.Sink.written c.finish.new.sink) (g.K.Sink.faults c.loop-bus.sink) (g.K.Sink.faults c.finish.new.sink) c.finish.result
+      closes_faultless (outcome_of (ending_at (c.number-in-Ok-End.result + 1) i.far.world).printed) (g.K.Sink.written c.loop-bus.sink) (g.K.Sink.written c.finish.new.sink) (g.K.Sink.faults c.loop-bus.sink) (g.K.Sink.faults c.finish.new.sink) c.finish.result
           (c.finish.ensures.closed _ i.far.world i.far.stands) unwritten ∙ i.writes,
     )
 
@@ -84,6 +85,6 @@ returns-in-Err-clause-faultless g c = λ unread unwritten.
     let other = stop_untold c.in-Err.stop c.number-in-Err.result (g.K.Sink.written c.loop-bus.sink) (g.K.Sink.written c.stop_lines.new.sink) (g.K.Sink.faults c.loop-bus.sink) (g.K.Sink.faults c.stop_lines.new.sink)
     c.stop_lines.result c.stop_lines.ensures.closed unread unwritten in (
       c.in-Err.ensures.faultless (λ e. other (cc (e))) ∙ i.reads,
-      closes_faultless (stop_outcome c.in-Err.stop c.number-in-Err.result) (g.K.Sink.written c.loop-bus.sink) (g.K.Sink.written c.stop_lines.new.sink) (g.K.Sink.faults c.loop-bus.sink) (g.K.Sink.faults c.stop_lines.new.sink) c.stop_lines.result
+      closes_faultless (outcome_of (stop_line c.in-Err.stop c.number-in-Err.result)) (g.K.Sink.written c.loop-bus.sink) (g.K.Sink.written c.stop_lines.new.sink) (g.K.Sink.faults c.loop-bus.sink) (g.K.Sink.faults c.stop_lines.new.sink) c.stop_lines.result
           c.stop_lines.ensures.closed unwritten ∙ i.writes,
     )

@@ -9,8 +9,8 @@ use Rattle.uac_bus.specs.declared.fault.BusFault.TheVariants as faults
 use Rattle.uac_bus.specs.BusWorld.{Step}
 use Rattle.uac_bus.specs.BusKept.{BusFields}
 use Rattle.uac_bus.specs.BusKept as kept
-use Rattle.uac_describe.specs.Outcome.{Outcome, read_fault}
-use Rattle.uac_scripts.specs.ScriptTranscript.{misread_outcome, too_long}
+use Rattle.uac_describe.specs.Outcome.{Printed, read_fault}
+use Rattle.uac_scripts.specs.ScriptTranscript.{misread, too_long}
 
 -- nothing was printed, no write met a fault, and the meters heard nothing
 pub record IsSilent (shown shown' : List Reading) (written written' : Option (List ℕ)) (writes writes' : ℕ) : Type 0 where
@@ -20,8 +20,11 @@ pub record IsSilent (shown shown' : List Reading) (written written' : Option (Li
 
 -- what is left of a line that wasn't done: the cause of a failed write; and else nothing
 abbrev pub Leaves : List Reading → List Reading → Option (List ℕ) → Option (List ℕ) → ℕ → ℕ → BusFault → Type 0
+Leaves shown shown' written written' writes writes' (faults.Script rule) = IsSilent shown shown' written written' writes writes'
+Leaves shown shown' written written' writes writes' (faults.Grammar fault) = IsSilent shown shown' written written' writes writes'
+Leaves shown shown' written written' writes writes' (faults.Topology fault) = IsSilent shown shown' written written' writes writes'
 Leaves shown shown' written written' writes writes' faults.WriteFault = Rose writes writes'
-Leaves shown shown' written written' writes writes' _ = IsSilent shown shown' written written' writes writes'
+Leaves shown shown' written written' writes writes' faults.NoMemory = IsSilent shown shown' written written' writes writes'
 
 -- what a line that makes this step comes to: it is done, no write met a fault, and the bus and the meters stand for the next world; or it
 -- fails. Memory may be wanted only where this says so
@@ -32,8 +35,8 @@ DoesScriptLine s memory bus shown shown' written written' writes writes' result 
     × IfErr result (Leaves shown shown' written written' writes writes')
     × OnOk result (writes' ≡ writes)
 
--- the last line where there is no next line; the number is that of a line that is too long
-abbrev pub stop_outcome : LineStop → ℕ → Outcome
-stop_outcome stop.Long number = misread_outcome 1 number
-stop_outcome stop.TooLong number = too_long
-stop_outcome stop.Failed number = read_fault
+-- the last line where there is no next one; the number is that of a line that is too long
+abbrev pub stop_line : LineStop → ℕ → Printed
+stop_line stop.Long number = misread 1 number
+stop_line stop.TooLong number = too_long
+stop_line stop.Failed number = read_fault

@@ -8,7 +8,7 @@ use Rattle.uac_script.specs.LineParsing.{answer}
 use Rattle.uac_bus.specs.BusWorld.{BusWorld, describing, running, step}
 use Rattle.uac_bus.specs.After.{said_step}
 use Rattle.uac_bus.specs.BusKept.{BusFields, BusStands}
-use Rattle.uac_scripts.specs.Running.{DoesScriptLine}
+use Rattle.uac_scripts.specs.LineOutcomes.{DoesScriptLine}
 use Rattle.uac_scripts.specs.Script.{wants}
 
 said_idle : (text : List ℕ) → is_idle text ≡ true → answer text ≡ Ok nothing_line

@@ -14,7 +14,7 @@ use Rattle.uac_bus.specs.declared.fault.BusFault.TheVariants as faults
 use Rattle.uac_bus.specs.BusWorld.{BusWorld, Step, done, refused, step}
 use Rattle.uac_bus.specs.After.{said_step}
 use Rattle.uac_bus.specs.BusKept.{Answers, BusFields, BusStands, may_want}
-use Rattle.uac_scripts.specs.Running.{DoesScriptLine, Leaves}
+use Rattle.uac_scripts.specs.LineOutcomes.{DoesScriptLine, Leaves}
 use Rattle.uac_scripts.specs.Script.{wants}
 
 -- a line was done, and then what it printed was to be handed on
