@@ -153,7 +153,7 @@ fn hand_on_line<K: Sink>(sink: &mut K) -> Result<(), BusFault>
     ensures fault { IfErr result (λ fault. fault ≡ BusFault.WriteFault) }
     ensures cause { OnErr result (Rose (K.faults sink.old) (K.faults sink.new)) }
 {
-    sink.settle()?;
+    sink.flush()?;
     Ok(())
 }
 
