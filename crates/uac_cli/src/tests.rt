@@ -366,6 +366,38 @@ const SCRIPT: &[u8] =
 const TRANSCRIPT: &[u8] =
     b"ready entities 0 streams 0 domains 0\ntime 2\nsteady yes\nmeter peak 0\nmeter clipped 0\nmeter sum 0\nrenders 0\n";
 
+/// A stream of one channel to the device, which a jack plays. Of the frames that the host sends, six a microframe, the first two are the
+/// samples of its track. After 43 microframes it is primed, with 258 frames, and in the 44th the jack plays the first six.
+const TRACK: &[u8] =
+    b"d 090286000201008032080b0002010020000904000000010120000924010002042e000008240a0103070000
+d 11240202010100010100000000000000000c2403030103000201000000090401000001022000090401010201022000
+d 10240102000101000000010000000000062402010420070501051c0001082501000000000007058111040004
+g
+c 010b010001000000
+a 1 5 -7
+m 44
+q
+";
+
+/// What it prints.
+const PLAYED: &[u8] = b"ready entities 3 streams 1 domains 1
+c done
+time 44
+steady yes
+domain 1 rate 48000 ticks 264
+stream 1 out setting 1 level 258 target 258 under 0 over 0 lost 0 missed 0
+meter peak 7
+meter clipped 0
+meter sum 12
+renders 0
+";
+
+#[test]
+fn samples_of_a_track_are_played(rt: HostRuntime) -> Result<(), Fail> {
+    expect_run(&rt, rt.alloc(), 64, TRACK, &[], PLAYED, Status::Ok)?;
+    Ok(())
+}
+
 /// A command over all of an input, whose sink takes one byte a call, so many of its 224, and fails at the next call: it writes so many
 /// bytes of the text.
 fn expect_front(
@@ -602,19 +634,39 @@ fn is_done(
     }
 }
 
-#[test]
-fn bus_does_one_line_after_the_other(rt: HostRuntime) -> Result<(), Fail> {
-    let alloc = rt.alloc();
+/// A bus without meters does the lines of a script, one after the other, and prints this text.
+fn expect_lines(
+    rt: &impl Abort,
+    alloc: Global,
+    script: &[u8],
+    text: &[u8],
+) -> Result<(), AllocError> {
     let renders = Rc::new(alloc, Cell::new(0u64))?;
     let racks = counting_racks(alloc, &renders, &renders)?;
     let mut sink = sink_in_memory(alloc, 64, &[])?;
     let mut meters = Meters::new(Vec::new(alloc));
     let mut bus = Bus::new(alloc);
-    for text in SCRIPT.split(|byte| *byte == b'\n') {
-        assert!(rt; is_done(&mut bus, text, &racks.plain, &mut meters, &mut sink));
+    for line in script.split(|byte| *byte == b'\n') {
+        assert!(rt; is_done(&mut bus, line, &racks.plain, &mut meters, &mut sink));
     }
     assert!(rt; bus.finish().is_ok());
+    assert_eq!(rt; sink.bytes_written(), text);
+    Ok(())
+}
+
+#[test]
+fn bus_does_one_line_after_the_other(rt: HostRuntime) -> Result<(), Fail> {
+    let alloc = rt.alloc();
     let text = b"ready entities 0 streams 0 domains 0\ntime 2\nsteady yes\nrenders 0\n";
-    assert_eq!(rt; sink.bytes_written(), text.as_slice());
+    expect_lines(&rt, alloc, SCRIPT, text)?;
+    let text = b"ready entities 3 streams 1 domains 1
+c done
+time 44
+steady yes
+domain 1 rate 48000 ticks 264
+stream 1 out setting 1 level 258 target 258 under 0 over 0 lost 0 missed 0
+renders 0
+";
+    expect_lines(&rt, alloc, TRACK, text)?;
     Ok(())
 }

@@ -4,6 +4,7 @@ use Rattle.std.specs.Prelude.{drop}
 use Rattle.std.specs.Prelude.{take_while, Option, None, Some, ◌⊎◌, Result, Ok, Err}
 use Rattle.std.specs.Io.KnownBytes.{Consumes, IsAtEnd}
 use Rattle.uac_edges.specs.Faults.{Rose}
+use Rattle.uac_edges.specs.Memory.{raised_count}
 use Rattle.uac_script.specs.declared.lines.Next.{Next}
 use Rattle.uac_script.specs.declared.lines.Next.TheVariants as next
 use Rattle.uac_script.specs.declared.lines.LineStop.{LineStop}
@@ -58,7 +59,7 @@ pub record Splitting : Type 0 where
 -- last
 pub record Goes (old new : Splitting) (bytes rest : List ℕ) (size : ℕ) (last : Bool) : Type 0 where
   pub text : new.text ≡ bytes
-  pub number : new.number ≡ old.number + 1
+  pub number : new.number ≡ raised_count old.number
   pub unread : new.unread ≡ rest
   pub spare : old.spare ≡ new.spare + size
   pub going : new.stop ≡ None
@@ -81,7 +82,7 @@ ComesOfNextLine old new bytes left before after (Ok next.Line) =
     ⊎ ((bytes ≢ []) × (head_of old.spare bytes ≡ unended bytes) × IsAtEnd left × Goes old new bytes [] (length bytes) true)
 ComesOfNextLine old new bytes left before after (Ok next.End) = (bytes ≡ []) × IsAtEnd left × (new ≡ old)
 ComesOfNextLine old new bytes left before after (Err stop.Long) = (head_of old.spare bytes ≡ long)
-    × Stops old new bytes stop.Long (old.number + 1)
+    × Stops old new bytes stop.Long (raised_count old.number)
 ComesOfNextLine old new bytes left before after (Err stop.TooLong) = (head_of old.spare bytes ≡ past)
     × Stops old new bytes stop.TooLong old.number
 ComesOfNextLine old new bytes left before after (Err stop.Failed) =

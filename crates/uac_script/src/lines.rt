@@ -52,7 +52,7 @@ pub struct Lines {
 }
 
 impl Model for Lines {
-    ghost use Rattle.std.specs.Prelude.{◌≡◌, ◌+◌, ◌≤◌, length, None};
+    ghost use Rattle.std.specs.Prelude.{◌+◌, ◌≤◌, length};
     ghost use Rattle.uac_script.specs.ScriptLines.{Splitting, most_of_input};
 
     ghost Value = { Splitting };
@@ -66,8 +66,7 @@ impl Model for Lines {
       ended = l.ended;
     } };
 
-    ghost invariant = { λ l. (l.stop ≡ None → l.number + l.spare ≤ most_of_input) × (l.spare ≤ most_of_input)
-        × (length l.unread ≤ l.spare + 1) };
+    ghost invariant = { λ l. (l.spare ≤ most_of_input) × (length l.unread ≤ l.spare + 1) };
 }
 
 impl Lines {
@@ -101,7 +100,6 @@ impl Lines {
             → source.new ≡ source.old }
         ensures faultless { result ≢ Err LineStop.Failed → S.faults source.new ≡ S.faults source.old }
         ensures never_falls { S.faults source.old ≤ S.faults source.new }
-        ensures bounded { self.new.stop ≡ None → self.new.number + self.new.spare ≤ most_of_input }
         ensures within { length self.new.unread ≤ self.new.spare + 1 }
     {
         if let Some(stop) = self.stop {
@@ -115,7 +113,7 @@ impl Lines {
             let number = self.number();
             match self.first(searched) {
                 Front::Line(size) => return Ok(self.go(size, size + 1, false)),
-                Front::Long => return Err(self.halt(LineStop::Long, number + 1)),
+                Front::Long => return Err(self.halt(LineStop::Long, number.saturating_add(1))),
                 Front::Past => return Err(self.halt(LineStop::TooLong, number)),
                 Front::Open(size) => searched = size,
             }
@@ -135,7 +133,8 @@ impl Lines {
         self.line.as_slice()
     }
 
-    /// The number of the last line, from 1; after a line that is too long that line's.
+    /// The number of the last line, from 1; after a line that is too long that line's. It stands
+    /// still at 18446744073709551615, where no input brings it.
     pub fn number(&self) -> u64
         ensures { result ≡ self.now.number }
     {
@@ -187,7 +186,7 @@ impl Lines {
             Ok(()) => {}
             Err(_) => unreachable!(),
         }
-        self.number += 1;
+        self.number = self.number.saturating_add(1);
         self.unread.skip(used);
         self.spare -= used;
         self.ended = last;

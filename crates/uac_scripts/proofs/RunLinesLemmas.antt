@@ -4,6 +4,7 @@ use Rattle.std.proofs.lemmas.List.{append-nil}
 use Rattle.std.specs.Io.KnownBytes.{Appends, Consumes, IsAtEnd, Keeps}
 use Rattle.uac_units.specs.Hearing.{Reading}
 use Rattle.uac_edges.specs.Faults.{Rose}
+use Rattle.uac_edges.specs.Memory.{raised_count}
 use Rattle.uac_edges.specs.Writing.{AppendsFront}
 use Rattle.uac_script.specs.ScriptLines.{line, long, past, unended, head_of, most_of_input, Splitting, Splits, StopsAtLine, Goes}
 use Rattle.uac_script.specs.LineParsing.{answer}
@@ -59,10 +60,15 @@ pub record IsFar (shown : List Reading) (left left' : Option (List ℕ)) (writte
   pub prompt : StopsAtRefusal shown taken
   pub size : length taken + lines.spare ≡ most_of_input + length lines.unread
   pub going : lines.stop ≡ None
+  pub few : lines.number + lines.spare ≤ most_of_input
   pub to_come : ToCome shown taken printed lines left' world lines.ended
   pub appended : Appends written written' (text_of printed)
   pub stands : BusStands bus shown' world
   pub cut : lines.ended ≡ false → HasDone shown taken printed lines.unread world
+
+-- the number of the next line doesn't stand still: no input has lines enough
+one_more : (lines : Splitting) → lines.number + lines.spare ≤ most_of_input → raised_count lines.number ≡ lines.number + 1
+one_more lines few = omega arith
 
 -- ---- the start
 
@@ -84,6 +90,7 @@ begins shown left written bus stands = record {
   prompt = record { front = []; piece = []; parts = refl; ending = ends no_more_lines (start shown); so_far = is_transcript shown [] stopped (ends no_more_lines (start shown)) (sym (goes_at (unended []) most_of_input [] stopped 1 (start shown) (head_nothing most_of_input))); going = refl; short = omega arith };
   size = refl;
   going = refl;
+  few = omega arith;
   to_come = (λ more end. refl);
   appended = Appends-none written written (kept_here written);
   stands = stands;
@@ -131,7 +138,7 @@ stops_later shown taken printed unread spare number w law before (b ∷ got) s =
 -- a line was handed out: the bytes taken up to it, why no more may be, and how the script goes on where the line is done; the bytes are
 -- the lines done before it, the line itself, and what stands after it
 pub record HasLine (shown : List Reading) (printed : List Said) (w : BusWorld) (left left' : Option (List ℕ)) (before : ℕ) (lines : Splitting) (reads reads' : ℕ) : Type 0 where
-  pub number : lines.number ≡ before + 1
+  pub few : lines.number + lines.spare ≤ most_of_input
   pub taken : List ℕ
   pub end : End
   pub go : BusWorld → Ending
@@ -172,16 +179,16 @@ has_front : (shown : List Reading) (taken : List ℕ) (printed : List Said) (got
     → ((more : List ℕ) (end : End) → transcript shown (taken ++ more) end ≡ with_lines_first printed (goes old.spare (old.unread ++ more) end (old.number + 1) w))
     → length taken + old.spare ≡ most_of_input + length old.unread
     → Consumes left left' (taken ++ got) → StopsAtRefusal shown (taken ++ got) → HasDone shown taken printed old.unread w → length told + 1 + length rest ≡ length (old.unread ++ got)
-    → head_of old.spare (old.unread ++ got) ≡ line told rest → Goes old new told rest (length told + 1) false → reads' ≡ reads
+    → head_of old.spare (old.unread ++ got) ≡ line told rest → Goes old new told rest (length told + 1) false → reads' ≡ reads → old.number + old.spare ≤ most_of_input
     → HasLine shown printed w left left' old.number new reads reads'
-has_front shown taken printed got told rest old new w left left' reads reads' law size consumed prompt isdone whole head g still =
+has_front shown taken printed got told rest old new w left left' reads reads' law size consumed prompt isdone whole head g still few =
     let parts = front_cut old.spare (old.unread ++ got) told rest head in
     let after = past_line shown taken printed got told rest old.unread old.spare old.number w law head in
     let spare-is : old.spare - (length told + 1) ≡ new.spare = let s = g.spare in omega arith in
-    let number-is : old.number + 1 ≡ new.number = sym g.number in
+    let number-is : old.number + 1 ≡ new.number = sym (g.number ∙ one_more old few) in
     let go : BusWorld → Ending = λ next. goes (old.spare - (length told + 1)) (rest ++ []) stopped (old.number + 1 + 1) next in
     record {
-      number = g.number;
+      few = (let s = g.spare in omega arith);
       taken = taken ++ got;
       end = stopped;
       go = go;
@@ -209,21 +216,25 @@ has_front shown taken printed got told rest old new w left left' reads reads' la
           ∙ ap (λ (n : ℕ). with_lines_first (printed ++ more) (goes new.spare (new.unread ++ later) end (n + 1) next)) number-is));
     }
 
+has_some : (bytes : List ℕ) → bytes ≢ [] → 1 ≤ length bytes
+has_some [] some = absurd (some refl)
+has_some (b ∷ rest) some = omega arith
+
 -- a last line that no newline ends
 has_rest : (shown : List Reading) (taken : List ℕ) (printed : List Said) (got : List ℕ) (old new : Splitting) (w : BusWorld) (left left' : Option (List ℕ)) (reads reads' : ℕ)
     → ((more : List ℕ) (end : End) → transcript shown (taken ++ more) end ≡ with_lines_first printed (goes old.spare (old.unread ++ more) end (old.number + 1) w))
     → length taken + old.spare ≡ most_of_input + length old.unread
     → Consumes left left' (taken ++ got) → StopsAtRefusal shown (taken ++ got) → HasDone shown taken printed old.unread w → IsAtEnd left' → old.unread ++ got ≢ []
-    → head_of old.spare (old.unread ++ got) ≡ unended (old.unread ++ got) → Goes old new (old.unread ++ got) [] (length (old.unread ++ got)) true → reads' ≡ reads
+    → head_of old.spare (old.unread ++ got) ≡ unended (old.unread ++ got) → Goes old new (old.unread ++ got) [] (length (old.unread ++ got)) true → reads' ≡ reads → old.number + old.spare ≤ most_of_input
     → HasLine shown printed w left left' old.number new reads reads'
-has_rest shown taken printed got old new w left left' reads reads' law size consumed prompt isdone over some head g still =
-    let number-is : old.number + 1 ≡ new.number = sym g.number in
+has_rest shown taken printed got old new w left left' reads reads' law size consumed prompt isdone over some head g still few =
+    let number-is : old.number + 1 ≡ new.number = sym (g.number ∙ one_more old few) in
     let go : BusWorld → Ending = λ next. ending_at (old.number + 1 + 1) next in
     let at : transcript shown (taken ++ got) at_end ≡ with_lines_first printed (after_step (said_step (answer (old.unread ++ got)) w) (old.number + 1) w go) =
     law got at_end
     ∙ ap (with_lines_first printed) (goes_at (unended (old.unread ++ got)) old.spare (old.unread ++ got) at_end (old.number + 1) w head ∙ rest_is_done (old.unread ++ got) (old.number + 1) w some) in
     record {
-      number = g.number;
+      few = (let s = g.spare in let one = has_some (old.unread ++ got) some in omega arith);
       taken = taken ++ got;
       end = at_end;
       go = go;
@@ -270,9 +281,9 @@ module _ (shown shown' : List Reading) (left mid left' : Option (List ℕ)) (wri
       elim splits.comes as (λ _. HasLine shown far.printed far.world left left' old.number new reads reads') [
         | inl front ↦
             has_front shown far.taken far.printed splits.taken front.0 front.1 old new far.world left left' reads reads' (goes_on open_yet) far.size consumed prompt (far.cut open_yet)
-            (line_size old.spare (old.unread ++ splits.taken) front.0 front.1 front.2) front.2 front.3 still
+            (line_size old.spare (old.unread ++ splits.taken) front.0 front.1 front.2) front.2 front.3 still far.few
         | inr rest ↦
-            has_rest shown far.taken far.printed splits.taken old new far.world left left' reads reads' (goes_on open_yet) far.size consumed prompt (far.cut open_yet) rest.2 rest.0 rest.1 rest.3 still
+            has_rest shown far.taken far.printed splits.taken old new far.world left left' reads reads' (goes_on open_yet) far.size consumed prompt (far.cut open_yet) rest.2 rest.0 rest.1 rest.3 still far.few
       ]
 
   -- the next line was handed out
@@ -308,6 +319,7 @@ far_on shown shown' shown'' left mid left' written written' written'' bus bus' o
       prompt = has.prompt;
       size = has.size;
       going = has.going;
+      few = has.few;
       to_come = has.on d.next d.more d.is;
       appended = Appends-lines written written' written'' far.printed d.more far.appended d.appended;
       stands = d.stands;
@@ -482,7 +494,7 @@ module _ (shown shown' : List Reading) (left mid left' : Option (List ℕ)) (wri
       (stopped_prompt open_yet splits.taken splits.prompt halt.unread halt.spare)
       (goes_on shown shown' left mid left' written written' bus old new reads reads' far open_yet splits.taken stopped
       ∙ ap (with_lines_first far.printed) (goes_at long old.spare (old.unread ++ splits.taken) stopped (old.number + 1) far.world splits.comes.0
-      ∙ ap (λ (n : ℕ). ends (misread 1 n) far.world) (sym halt.number)))
+      ∙ ap (λ (n : ℕ). ends (misread 1 n) far.world) (sym (halt.number ∙ one_more old far.few))))
       far.appended first-writes closed (λ _. BusStands-meters bus shown' far.world far.stands)
   stopped_by stops.TooLong open_yet splits calm closed =
       let halt = splits.comes.1 in
@@ -560,14 +572,14 @@ module _ (shown shown' : List Reading) (left mid left' : Option (List ℕ)) (wri
       }
 
   pub finished_run : (got : Next) → got ≡ next.End → (old.ended ≡ false → Splits old new mid left' reads reads' (Ok got)) → (old.ended ≡ true → (new ≡ old) × (left' ≡ mid)) → length new.unread ≤ new.spare + 1
-      → (number : ℕ) → number ≡ new.number → Closes (outcome_of (ending_at (number + 1) far.world).printed) written' written'' before last status
+      → (number : ℕ) → number ≡ raised_count new.number → Closes (outcome_of (ending_at number far.world).printed) written' written'' before last status
       → IsRun (Some Run) shown shown' left left' first reads' written written'' writes last status × IsAtEnd left'
   finished_run got got-is splits same within number is closed =
       let o = is_over old.ended refl (λ e. subst (λ (n : Next). Splits old new mid left' reads reads' (Ok n)) got-is (splits e)) same within in
-      let number-is : number ≡ old.number = is ∙ ap (λ (l : Splitting). l.number) o.same in (
+      let number-is : number ≡ old.number + 1 = is ∙ ap (λ (l : Splitting). raised_count l.number) o.same ∙ one_more old far.few in (
         ends_run shown shown' left left' first reads' written written' written'' writes before last status o.taken far.printed at_end (ending_at (old.number + 1) far.world)
             o.consumed (o.over, still) o.prompt o.law far.appended first-writes
-            (subst (λ (n : ℕ). Closes (outcome_of (ending_at (n + 1) far.world).printed) written' written'' before last status) number-is closed)
+            (subst (λ (n : ℕ). Closes (outcome_of (ending_at n far.world).printed) written' written'' before last status) number-is closed)
             (λ _. BusStands-meters bus shown' far.world far.stands ∙ sym (finished_meters (old.number + 1) far.world)),
         o.over,
       )

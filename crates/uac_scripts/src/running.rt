@@ -86,7 +86,7 @@ fn run_lines<S: Source, K: Sink>(
                 Ok(()) => {}
                 Err(fault) => return refuse_line(fault, lines.number(), sink),
             },
-            Ok(Next::End) => return finish(bus, lines.number() + 1, sink),
+            Ok(Next::End) => return finish(bus, lines.number().saturating_add(1), sink),
             Err(stop) => return stop_lines(stop, lines.number(), sink),
         }
     }

@@ -1,5 +1,5 @@
-use Rattle.std.proofs.Common.{◌≡◌, ◌+◌, ◌∙◌, Ok, Err, refl, ap, arith}
-use Rattle.uac_script.specs.ScriptLines.{Splitting}
+use Rattle.std.proofs.Common.{◌≡◌, ◌∙◌, Ok, Err, refl, ap}
+use Rattle.uac_edges.specs.Memory.{raised_count}
 use Rattle.uac_units.specs.MeterReadings.{readings}
 use Rattle.uac_describe.specs.Outcome.{outcome_of}
 use Rattle.uac_scripts.specs.LineOutcomes.{stop_line}
@@ -11,7 +11,6 @@ use Rattle.uac_scripts.proofs.running.run_lines.Goals as goal
 pub loop-bus-init : goal.loop-bus-init
 loop-bus-init g c = record {
   far = far_at_first _ _ _ _ _ c.requires.fresh c.requires.unread;
-  bounded = (let all : c.args.lines.now.number + c.args.lines.now.spare ≡ 0 + 268435456 = ap (λ (s : Splitting). s.number + s.spare) c.requires.unread in omega arith);
   reads = refl;
   writes = refl;
 }
@@ -24,7 +23,6 @@ loop-bus-preserved g c =
     let has = has_line _ _ _ _ _ _ _ _ _ _ _ _ f c.in-Ok-Line.field-0 c.in-Ok-Line.field-0-is before_end (c.in-Ok-Line.ensures.splits f.going before_end) (c.in-Ok-Line.ensures.faultless (λ e. cc)) in
     record {
       far = far_on _ _ _ _ _ _ _ _ _ _ _ _ _ _ _ f has _ c.text.ensures.0 (c.in-Ok.ensures.does f.world f.stands).0;
-      bounded = c.next.ensures.bounded has.going;
       reads = c.in-Ok-Line.ensures.faultless (λ e. cc) ∙ i.reads;
       writes = (c.in-Ok.ensures.does f.world f.stands).2 ∙ i.writes;
     }
@@ -46,7 +44,7 @@ returns-in-Ok-End-clause-run g c =
     let f = i.far in
     (finished_run _ _ _ _ _ _ _ _ _ _ _ _ _ _ _ _ _ _ f (c.in-Ok-End.ensures.faultless (λ e. cc) ∙ i.reads) i.writes _ c.in-Ok-End.field-0-is (c.in-Ok-End.ensures.splits f.going)
     (λ e. let s = c.in-Ok-End.ensures.ended f.going e in (s.1, ap g.S.Source.left s.2)) c.next.ensures.within
-    _ c.number-in-Ok-End.ensures (c.finish.ensures.closed _ f.world f.stands)).0
+    _ (c.saturating_add.ensures ∙ ap raised_count c.number-in-Ok-End.ensures) (c.finish.ensures.closed _ f.world f.stands)).0
 
 pub returns-in-Err-clause-run : goal.returns-in-Err-clause-run
 returns-in-Err-clause-run g c =
@@ -74,7 +72,7 @@ pub returns-in-Ok-End-clause-faultless : goal.returns-in-Ok-End-clause-faultless
 returns-in-Ok-End-clause-faultless g c = λ unread unwritten.
     let i = c.loop-bus.invariant in (
       c.in-Ok-End.ensures.faultless (λ e. cc) ∙ i.reads,
-      closes_faultless (outcome_of (ending_at (c.number-in-Ok-End.result + 1) i.far.world).printed) (g.K.Sink.written c.loop-bus.sink) (g.K.Sink.written c.finish.new.sink) (g.K.Sink.faults c.loop-bus.sink) (g.K.Sink.faults c.finish.new.sink) c.finish.result
+      closes_faultless (outcome_of (ending_at c.saturating_add.result i.far.world).printed) (g.K.Sink.written c.loop-bus.sink) (g.K.Sink.written c.finish.new.sink) (g.K.Sink.faults c.loop-bus.sink) (g.K.Sink.faults c.finish.new.sink) c.finish.result
           (c.finish.ensures.closed _ i.far.world i.far.stands) unwritten ∙ i.writes,
     )
 

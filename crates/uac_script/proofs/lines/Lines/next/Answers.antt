@@ -36,7 +36,6 @@ loop-size-preserved g c =
     let grows = told.ok in
     let shown = c.in-Open.ensures in
     let kept = others_kept c.loop-size.self c.fill.new.self told.others in
-    let number = kept.0 in
     let spare = kept.1 in
     let grown : length c.fill.new.self.unread ≡ length (c.loop-size.self.unread ++ grows.taken) = ap length grows.grown in
     let few = grows.few in

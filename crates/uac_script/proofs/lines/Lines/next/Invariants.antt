@@ -13,7 +13,7 @@ invariant-loop-size g l = record {
   prompt : StopsAtLine l.fn.self.spare l.fn.self.unread taken;
   same : l.self ≡ record l.fn.self { unread = l.fn.self.unread ++ taken };
   going : l.self.stop ≡ None;
-  bounded : l.self.number + l.self.spare ≤ most_of_input;
+  bounded : l.self.spare ≤ most_of_input;
   within : length l.self.unread ≤ l.self.spare + 1;
   known : l.searched ≤ line_end l.self.unread;
   counted : l.searched ≤ l.self.spare;
