@@ -64,7 +64,7 @@ pub record StaysSound (r : RunningWorld) : Type 0 where
 abbrev pub CallsKeepSound : Type 0
 CallsKeepSound = (r : RunningWorld) → IsSoundRun r → StaysSound r
 
--- so do control transfers
+-- a control transfer keeps a run sound
 abbrev pub TransfersKeepSound : Type 0
 TransfersKeepSound = (p : Setup) (bytes : List ℕ) (r : RunningWorld) → IsSoundRun r → IsSoundRun (after_transfer p bytes r)
 

@@ -27,7 +27,7 @@ pub record IsFinishedScript (a : After) : Type 0 where
   pub none_refused : a.refusal ≡ None
   pub ends : finish_of a.world ≡ Ok tt
 
--- so it is whatever the meters show
+-- each generated script is finished so, whatever the meters show
 abbrev pub GeneratedScriptsAreDone : Type 0
 GeneratedScriptsAreDone =
     (number : ℕ) (shown : List Reading) → number < 2 ^ 32 → IsFinishedScript (after_texts (generated_lines number) shown)

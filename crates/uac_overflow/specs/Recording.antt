@@ -41,7 +41,7 @@ pub record IsRecorded (r : RunningWorld) (interface : ℕ) (i : InStream) (d : D
   pub gone : i.gone ≤ length i.made
   pub few : HoldsFew i
 
--- so it is for each that runs
+-- every stream from the device that runs is recorded so, by the clock of some domain
 abbrev pub AreRecorded : RunningWorld → Type 0
 AreRecorded r =
     (interface : ℕ) (i : InStream) → r.device.ins interface ≡ Some i → (d : Domain) × IsRecorded r interface i d

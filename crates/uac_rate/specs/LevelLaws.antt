@@ -115,7 +115,7 @@ PrimedInRange =
     → IsPriming service least
     → before < least → least ≤ after → Fills values service before after → IsTarget service after
 
--- and it is robust and tight then
+-- a stream that was just primed is robust, and it is tight
 abbrev pub PrimedIsRobust : Type 0
 PrimedIsRobust =
     (values : Nominal) (band service period : ℕ) (p : Point) → HasBand values band → IsJustPrimed values service period p

@@ -66,7 +66,7 @@ is_steady given = list_all is_slight given.deviations && loses_few_reports given
 abbrev pub IsSteady : SteadyHistory → Type 0
 IsSteady given = is_steady given ≡ true
 
--- what is kept of that
+-- what `Steady` is seen as: whether all that was given is steady, and how many reports of each stream were lost since one came, at most 4
 pub record SteadyFields : Type 0 where
   pub holds : Bool
   pub runs : List ℕ

@@ -37,7 +37,7 @@ IntervalsGoOn =
     (values : Nominal) (service period : ℕ) (anchor : Anchor) (p q : Point) → Interval values service period false p q
     → anchor.age + service ≤ 32 → Gap values anchor p → Gap values (anchor_after_interval service anchor) q
 
--- so does a report that was lost
+-- a gap goes on past a report that was lost
 abbrev pub LostReportsGoOn : Type 0
 LostReportsGoOn =
     (values : Nominal) (period : ℕ) (anchor : Anchor) (p q : Point) → TakesReport values period true p q → Gap values anchor p

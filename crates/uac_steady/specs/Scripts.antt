@@ -30,7 +30,7 @@ pub record IsWithinBands (a : After) : Type 0 where
   pub no_under : All IsNoUnder a.lines
   pub near : All IsNearLevel a.lines
 
--- so it is for every list of lines
+-- every list of lines that leaves a steady world keeps within these bands
 abbrev pub SteadyScriptsKeepBands : Type 0
 SteadyScriptsKeepBands =
     (texts : List (List ℕ)) (shown : List Reading) → is_steady_in (after_texts texts shown).world ≡ true

@@ -162,7 +162,7 @@ packet_sent lost interface w =
       met = counted_at interface (after_arrival (arrival_in w.device interface packet)) w.met;
     }
 
--- what is said of it
+-- what is said of the packet that the host sends
 abbrev pub sent_lines : ℕ → Bool → ℕ → StreamingWorld → List Said
 sent_lines detail lost interface w =
     out_lines detail interface (size_of w.host interface) (arrival_in w.device interface (packet_to lost interface w))
@@ -209,7 +209,7 @@ unfoldable pub packet_fetched : Bool → ℕ → StreamingWorld → StreamingWor
 packet_fetched lost interface w =
     record w { device = after_sending_packet interface w.device; met = counted_at interface (λ c. if lost then one_lost c else c) w.met }
 
--- what is said of it
+-- what is said of the packet that the device sends
 abbrev pub fetched_lines : ℕ → Bool → ℕ → StreamingWorld → List Said
 fetched_lines detail lost interface w =
     in_lines detail lost interface (frames_in w.device interface) (heard_in w.host interface (packet_in w.device interface))
