@@ -7,6 +7,7 @@ pub mod RunningKeptStartLemmas
 pub mod EventsLemmas
 pub mod StreamingWorldLemmas
 pub mod SilencePacketLemmas
+pub mod NamingLemmas
 pub mod RoomLemmas
 pub mod RunningTransfersLemmas
 pub mod RunningTransfersLineLemmas

@@ -390,11 +390,12 @@ fn numbers_are_bytes(function: &Function)
     ensures { All (λ s. s.number < 256) function.now.streams }
 {
     for stream in function.streams() {
-        let _number = number_of(stream);
+        let _number = interface_number_of(stream);
     }
 }
 
-fn number_of(stream: &StreamInterface) -> u8
+/// bInterfaceNumber of a streaming interface.
+fn interface_number_of(stream: &StreamInterface) -> u8
     ensures { result ≡ stream.now.number }
 {
     stream.number

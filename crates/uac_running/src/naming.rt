@@ -1,5 +1,5 @@
 // What a line of the script names: jacks, domains, streams, and the packets and reports of these.
-ghost use Rattle.std.specs.Prelude.{◌≡◌, ◌==◌, ◌%◌, List};
+ghost use Rattle.std.specs.Prelude.{◌≡◌, ◌≢◌, ◌==◌, ◌%◌, List};
 ghost use Rattle.std.specs.List.{list_all, list_any};
 ghost use Rattle.uac_script.specs.Line.{phrase_mark};
 ghost use Rattle.uac_units.specs.Hearing.{Reading};
@@ -10,6 +10,7 @@ ghost use Rattle.uac_running.specs.RunningWorld.{RunningWorld};
 use crate::jacks::Jack;
 use crate::running::Running;
 use uac_script::{Mark, MarkKind};
+use uac_topology::laws::{entities_have_channels, functions_are_sound};
 use uac_topology::{Function, StreamInterface};
 
 impl Running {
@@ -80,7 +81,7 @@ fn names_stream(function: &Function, mark: &Mark) -> bool
     }
 }
 
-/// Whether each mark does.
+/// Whether every mark names a stream of its kind.
 pub fn all_name_streams(function: &Function, marks: &[Mark]) -> bool
     ensures { result ≡ list_all (λ mark. spec.names_stream function.now (phrase_mark mark)) marks.now }
 {
@@ -92,6 +93,8 @@ pub fn all_name_streams(function: &Function, marks: &[Mark]) -> bool
 pub fn are_frames(function: &Function, number: u8, count: usize) -> bool
     ensures { result ≡ spec.are_frames function.now number count }
 {
+    functions_are_sound(function);
+    entities_have_channels();
     match function.interface(number) {
         Some(stream) => {
             carries_out(stream) && are_whole(count, function.channels_of(stream.terminal))
@@ -100,12 +103,10 @@ pub fn are_frames(function: &Function, number: u8, count: usize) -> bool
     }
 }
 
-/// Whether so many samples are whole frames of so many channels. None are where there is no channel, but for no samples.
+/// Whether so many samples are whole frames of so many channels.
 fn are_whole(count: usize, channels: u8) -> bool
+    requires { channels ≢ 0 }
     ensures { result ≡ (count % channels == 0) }
 {
-    if channels == 0 {
-        return count == 0;
-    }
     count % usize::from(channels) == 0
 }

@@ -8,7 +8,7 @@ use Rattle.uac_running.proofs.microframes.numbers_are_bytes.Goals as goal
 pub loop-stream-preserved : goal.loop-stream-preserved
 loop-stream-preserved c =
     All-more (λ (s : StreamInterface). s.number < 256) c.streams-stream-items.result.now c.loop-stream.stream-index c.stream-item.result c.loop-stream-test.true c.loop-stream.invariant
-    (subst (λ (n : ℕ). n < 256) (c.number_of-number.ensures ∙ ap (λ (s : StreamInterface). s.number) c.stream-item.is) c.number_of-number.type_inv)
+    (subst (λ (n : ℕ). n < 256) (c.interface_number_of-number.ensures ∙ ap (λ (s : StreamInterface). s.number) c.stream-item.is) c.interface_number_of-number.type_inv)
 
 pub returns : goal.returns
 returns c =
