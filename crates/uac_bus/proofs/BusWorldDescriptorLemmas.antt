@@ -1,5 +1,5 @@
 -- The lines of the descriptor, as steps of the world.
-use Rattle.std.proofs.Common.{◌≡◌, ◌≢◌, ℕ, List, [], ◌∷◌, ◌++◌, refl, sym, ap, subst, ◌∙◌, true, Option, None, Some, Result, Ok, Err, IfOk, IfErr}
+use Rattle.std.proofs.Common.{◌≡◌, ◌≢◌, ℕ, List, [], ◌∷◌, ◌++◌, refl, sym, ap, subst, ◌∙◌, true, Option, None, Some, Result, Ok, Err, IfOk, IfErr, IsErrAnd}
 use Rattle.std.specs.Io.KnownBytes.{Appends}
 use Rattle.std.proofs.KnownBytes.{Appends-nil}
 use Rattle.uac_sentence.specs.declared.faults.GrammarFault.{GrammarFault}
@@ -27,9 +27,31 @@ use Rattle.uac_running.specs.RunningWorld.{at_start}
 use Rattle.uac_bus.specs.declared.fault.BusFault.{BusFault}
 use Rattle.uac_bus.specs.declared.fault.BusFault.TheVariants as faults
 use Rattle.uac_bus.specs.declared.bus.BusStage.TheVariants as stages
-use Rattle.uac_bus.specs.BusWorld.{Step, done, describing, running, if_no_fault, if_sound, silently, step_feed, step_go}
-use Rattle.uac_bus.specs.BusKept.{BusStageStands, Reaches, IsWriteCut, Prevents}
+use Rattle.uac_bus.specs.BusWorld.{BusWorld, Step, done, describing, running, if_no_fault, if_sound, silently, step_feed, step_go}
+use Rattle.uac_bus.specs.BusKept.{BusStageStands, Reaches, IsWriteCut, Prevents, Does, is_final}
 use Rattle.uac_bus.specs.BusRows.{BeginsRunning, bus_fault_of}
+
+-- a fault of the descriptor is answered again from now on, and is no failed write
+pub told_finally : (fault : DescriptorFault) → is_final (bus_fault_of fault) ≡ true
+told_finally (broken.Grammar f) = refl
+told_finally (broken.Topology f) = refl
+told_finally broken.NoMemory = refl
+
+pub told_unwritten : (fault : DescriptorFault) → bus_fault_of fault ≢ faults.WriteFault
+told_unwritten (broken.Grammar f) e = absurd (cc)
+told_unwritten (broken.Topology f) e = absurd (cc)
+told_unwritten broken.NoMemory e = absurd (cc)
+
+-- and `?` handed it on
+pub final_handed_on : (fault : DescriptorFault) (result : Result (Unit {0}) BusFault) → IsErrAnd result (λ told. told ≡ bus_fault_of fault)
+    → IfErr result (λ told. is_final told ≡ true)
+final_handed_on fault (Ok _) is = absurd is
+final_handed_on fault (Err told) is = ap is_final is ∙ told_finally fault
+
+pub unwritten_handed_on : (fault : DescriptorFault) (result : Result (Unit {0}) BusFault) → IsErrAnd result (λ told. told ≡ bus_fault_of fault)
+    → IfErr result (λ told. told ≢ faults.WriteFault)
+unwritten_handed_on fault (Ok _) is = absurd is
+unwritten_handed_on fault (Err told) is = λ write. told_unwritten fault (sym is ∙ write)
 
 -- the end of such a descriptor
 pub gone_well : (bytes : List ℕ) (d : SoundDescriptor) (shown : List Reading) → Describes bytes (Ok d)
@@ -97,9 +119,11 @@ fed_stopped taken piece (reads.Fault f) told shown written at shows =
     ap (λ (o : Option GrammarFault). if_no_fault o (silently (describing (taken ++ piece) shown))) found
 fed_stopped taken piece reads.NoMemory told shown written at shows = refl
 
-pub fed_ill : (taken piece : List ℕ) (stop : ReadStop) (told : Option ReadStop) (fault : BusFault) (shown : List Reading) (written : Option (List ℕ))
-    → told ≡ Some stop → (told ≢ Some reads.NoMemory → told ≡ shown_stop (taken ++ piece)) → fault ≡ bus_fault_of (fault_of stop)
-    → Prevents fault true (step_feed (taken ++ piece) shown) written written
-fed_ill taken piece stop told fault shown written at shows is =
+pub fed_ill : (taken piece : List ℕ) (stop : ReadStop) (told : Option ReadStop) (shown : List Reading) (written : Option (List ℕ))
+    (Holds : BusWorld → Type 0) (result : Result (Unit {0}) BusFault)
+    → told ≡ Some stop → (told ≢ Some reads.NoMemory → told ≡ shown_stop (taken ++ piece)) → IsErrAnd result (λ fault. fault ≡ bus_fault_of (fault_of stop))
+    → Does (step_feed (taken ++ piece) shown) true Holds written written result
+fed_ill taken piece stop told shown written Holds (Ok _) at shows is = absurd is
+fed_ill taken piece stop told shown written Holds (Err fault) at shows is =
     subst (λ (f : BusFault). Prevents f true (step_feed (taken ++ piece) shown) written written) (sym is)
     (fed_stopped taken piece stop told shown written at shows)

@@ -8,12 +8,12 @@ ghost use Rattle.uac_running.specs.RunningLines.{ready_line};
 ghost use Rattle.uac_transcript.specs.Transcript.{spelling_of};
 ghost use Rattle.uac_bus.specs.BusWorld.{step_feed, step_go};
 ghost use Rattle.uac_bus.specs.BusKept.{BusStageStands, Does, is_final};
-ghost use Rattle.uac_bus.specs.BusRows.{BeginsRunning, bus_fault_of};
+ghost use Rattle.uac_bus.specs.BusRows.{BeginsRunning};
 
 use crate::bus::BusStage;
 use crate::fault::BusFault;
 use std::alloc::Global;
-use uac_configuration::{DescriptorFault, SoundDescriptor, reading_fault, sound_descriptor};
+use uac_configuration::{SoundDescriptor, sound_descriptor};
 use uac_edges::Sink;
 use uac_grammar::Reader;
 use uac_running::Running;
@@ -27,23 +27,8 @@ pub(crate) fn feed(reader: &mut Reader, bytes: &[u8]) -> Result<(), BusFault>
     ensures fault { IfErr result (λ fault. is_final fault ≡ true) }
     ensures unwritten { IfErr result (λ fault. fault ≢ BusFault.WriteFault) }
 {
-    match reader.feed(bytes) {
-        Ok(()) => Ok(()),
-        Err(stop) => Err(bus_fault(reading_fault(stop))),
-    }
-}
-
-/// A fault of the descriptor, as the bus tells it.
-fn bus_fault(fault: DescriptorFault) -> BusFault
-    ensures told { result ≡ bus_fault_of fault }
-    ensures kept { is_final result ≡ true }
-    ensures unwritten { result ≢ BusFault.WriteFault }
-{
-    match fault {
-        DescriptorFault::Grammar(fault) => BusFault::Grammar(fault),
-        DescriptorFault::Topology(fault) => BusFault::Topology(fault),
-        DescriptorFault::NoMemory => BusFault::NoMemory,
-    }
+    reader.feed(bytes)?;
+    Ok(())
 }
 
 /// The descriptor's end: the device that it describes begins to run, and says so.
@@ -62,7 +47,7 @@ pub(crate) fn begin<K: Sink>(
 {
     match sound_descriptor(alloc, reader) {
         Ok(described) => start(alloc, described, sink),
-        Err(fault) => Err(bus_fault(fault)),
+        Err(fault) => Err(BusFault::from(fault)),
     }
 }
 

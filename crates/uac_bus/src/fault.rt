@@ -1,8 +1,9 @@
 // Why a line isn't done.
 use thiserror::Error;
+use uac_configuration::DescriptorFault;
 use uac_descriptor::NoMemory;
 use uac_edges::Failed;
-use uac_grammar::GrammarFault;
+use uac_grammar::{GrammarFault, ReadStop};
 use uac_topology::TopologyFault;
 
 /// Why a line of a script isn't done.
@@ -44,5 +45,32 @@ impl From<NoMemory> for BusFault {
 
     fn from(_refused: NoMemory) -> BusFault {
         BusFault::NoMemory
+    }
+}
+
+impl From<DescriptorFault> for BusFault {
+    ghost use Rattle.std.specs.Prelude.{◌≡◌};
+    ghost use Rattle.uac_bus.specs.BusRows.{bus_fault_of};
+
+    ghost from_gives = { λ fault told. told ≡ bus_fault_of fault };
+
+    fn from(fault: DescriptorFault) -> BusFault {
+        match fault {
+            DescriptorFault::Grammar(fault) => BusFault::Grammar(fault),
+            DescriptorFault::Topology(fault) => BusFault::Topology(fault),
+            DescriptorFault::NoMemory => BusFault::NoMemory,
+        }
+    }
+}
+
+impl From<ReadStop> for BusFault {
+    ghost use Rattle.std.specs.Prelude.{◌≡◌};
+    ghost use Rattle.uac_configuration.specs.ConfigurationVerdict.{fault_of};
+    ghost use Rattle.uac_bus.specs.BusRows.{bus_fault_of};
+
+    ghost from_gives = { λ stop told. told ≡ bus_fault_of (fault_of stop) };
+
+    fn from(stop: ReadStop) -> BusFault {
+        BusFault::from(DescriptorFault::from(stop))
     }
 }

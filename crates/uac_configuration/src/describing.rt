@@ -2,25 +2,15 @@
 ghost use Rattle.std.specs.Prelude.{◌≡◌, flat_map, IfErr, IfOk};
 ghost use Rattle.uac_descriptor.specs.Spelling.{spelling};
 ghost use Rattle.uac_configuration.specs.Configuration.{configuration_of};
-ghost use Rattle.uac_configuration.specs.ConfigurationVerdict.{Describes, fault_of};
+ghost use Rattle.uac_configuration.specs.ConfigurationVerdict.{Describes};
 
 use crate::bytes::configuration_in;
 use crate::fault::DescriptorFault;
 use std::alloc::Global;
 use uac_descriptor::{Block, ByteList, NoMemory};
-use uac_grammar::{ReadStop, Reader};
+use uac_grammar::Reader;
 use uac_sentence::laws::sentences_are_well_formed;
 use uac_topology::{CheckStop, Function, check};
-
-/// Why a reader stopped, as a fault of what it took.
-pub fn reading_fault(stop: ReadStop) -> DescriptorFault
-    ensures { result ≡ fault_of stop }
-{
-    match stop {
-        ReadStop::Fault(fault) => DescriptorFault::Grammar(fault),
-        ReadStop::NoMemory => DescriptorFault::NoMemory,
-    }
-}
 
 /// What a descriptor's bytes come to: the function that they describe, and those of them of which descriptors are answered.
 #[derive(Drop)]
@@ -46,7 +36,7 @@ pub fn sound_descriptor(alloc: Global, reader: Reader) -> Result<SoundDescriptor
             Err(CheckStop::Fault(fault)) => Err(DescriptorFault::Topology(fault)),
             Err(CheckStop::NoMemory) => Err(DescriptorFault::NoMemory),
         },
-        Err(stop) => Err(reading_fault(stop)),
+        Err(stop) => Err(DescriptorFault::from(stop)),
     }
 }
 

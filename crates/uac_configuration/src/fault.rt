@@ -1,6 +1,6 @@
 // Why bytes come to nothing.
 use thiserror::Error;
-use uac_grammar::GrammarFault;
+use uac_grammar::{GrammarFault, ReadStop};
 use uac_topology::TopologyFault;
 
 /// Why bytes describe no sound function.
@@ -15,4 +15,18 @@ pub enum DescriptorFault {
     /// There was no memory.
     #[error("no memory")]
     NoMemory,
+}
+
+impl From<ReadStop> for DescriptorFault {
+    ghost use Rattle.std.specs.Prelude.{◌≡◌};
+    ghost use Rattle.uac_configuration.specs.ConfigurationVerdict.{fault_of};
+
+    ghost from_gives = { λ stop fault. fault ≡ fault_of stop };
+
+    fn from(stop: ReadStop) -> DescriptorFault {
+        match stop {
+            ReadStop::Fault(fault) => DescriptorFault::Grammar(fault),
+            ReadStop::NoMemory => DescriptorFault::NoMemory,
+        }
+    }
 }

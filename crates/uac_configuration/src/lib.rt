@@ -9,5 +9,5 @@ mod describing;
 mod fault;
 
 pub use bytes::bytes_of;
-pub use describing::{SoundDescriptor, reading_fault, sound_descriptor};
+pub use describing::{SoundDescriptor, sound_descriptor};
 pub use fault::DescriptorFault;

@@ -1,8 +1,16 @@
-use Rattle.uac_bus.proofs.BusWorldDescriptorLemmas.{gone_ill}
+use Rattle.std.proofs.Common.{◌∙◌, ap, sym}
+use Rattle.uac_bus.specs.BusKept.{is_final}
+use Rattle.uac_bus.proofs.BusWorldDescriptorLemmas.{gone_ill, told_finally, told_unwritten}
 use Rattle.uac_bus.proofs.describing.begin.Goals as goal
 
 pub returns-in-Ok-clause-begins : goal.returns-in-Ok-clause-begins
 returns-in-Ok-clause-begins g c = c.start.ensures.begins c.args.reader.taken c.in-Ok.ensures
 
 pub returns-in-Err-clause-begins : goal.returns-in-Err-clause-begins
-returns-in-Err-clause-begins g c = λ shown. gone_ill _ _ c.bus_fault.result shown _ c.in-Err.ensures c.bus_fault.ensures.told
+returns-in-Err-clause-begins g c = λ shown. gone_ill _ _ c.from.result shown _ c.in-Err.ensures c.from.ensures
+
+pub returns-in-Err-clause-fault : goal.returns-in-Err-clause-fault
+returns-in-Err-clause-fault g c = ap is_final c.from.ensures ∙ told_finally c.in-Err.fault
+
+pub returns-in-Err-clause-cause : goal.returns-in-Err-clause-cause
+returns-in-Err-clause-cause g c = λ write. absurd (told_unwritten c.in-Err.fault (sym c.from.ensures ∙ write))
