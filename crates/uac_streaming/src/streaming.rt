@@ -146,7 +146,7 @@ impl Streaming {
     {
         functions_are_sound(function);
         sound_functions_are_small();
-        match number_of(function, interface) {
+        match interface_number_of(function, interface) {
             Some(number) => self.set_stream(function, number, begun),
             None => {}
         }
@@ -341,7 +341,7 @@ fn arrive(device: &mut Device, interface: u8, packet: &Packet, lost: bool) -> Ar
 }
 
 /// The number of the streaming interface with this number, as a byte; None exactly where none has it.
-fn number_of(function: &Function, interface: u16) -> Option<u8>
+fn interface_number_of(function: &Function, interface: u16) -> Option<u8>
     ensures { result ≡ option_map (λ s. s.number) (interface_in function.now interface) }
 {
     function
