@@ -12,6 +12,7 @@ use Rattle.uac_descriptor.specs.declared.streaming.TypeOne.{TypeOne}
 use Rattle.uac_entities.specs.declared.stream.Setting.{Setting}
 use Rattle.uac_entities.specs.declared.stream.StreamInterface.{StreamInterface}
 use Rattle.uac_topology.specs.Function.{FunctionFields}
+use Rattle.uac_topology.specs.FunctionKept.{AreInRange, IsSettingInRange}
 use Rattle.uac_alt.specs.AltStreams.{can_run, has_its_feedback, linked_channels, packet_room, period_of, stream_at, stream_of, stream_with, StreamFields}
 
 -- what holds of each element holds of one that was found
@@ -20,6 +21,14 @@ all_found P test xs a each is =
     let index : ℕ = position_or_len test xs in
     let at : slice_get xs index ≡ Some a = sym (find_at test xs) ∙ is in
     subst P (get_or_from_slice_get xs index a a at) (each index a (slice_get_within xs index a at))
+
+-- the numbers of a setting that was found are in range
+pub range_at : (function : FunctionFields) (interface number : ℕ) (s : StreamInterface) (setting : Setting) → AreInRange function.streams
+    → find (λ c. c.number == interface) function.streams ≡ Some s → find (λ t. t.number == number) s.settings ≡ Some setting
+    → IsSettingInRange setting
+range_at function interface number s setting ranges carried set =
+    all_found IsSettingInRange (λ t. t.number == number) s.settings setting
+    (all_found (λ (c : StreamInterface). All IsSettingInRange c.settings) (λ c. c.number == interface) function.streams s ranges carried) set
 
 pub record Parts (function : FunctionFields) (rate interface number : ℕ) (stream : StreamFields) : Type 0 where
   pub above : (number == 0) ≡ false
@@ -75,7 +84,6 @@ parts_of function rate interface number stream e = elim (cases_Bool (number == 0
 -- what the test of a setting says
 pub record Ran (function : FunctionFields) (s : StreamInterface) (setting : Setting) (nominal : Nominal) (g : General) (f : TypeOne) (first : Endpoint) : Type 0 where
   pub linked : g.channels ≡ linked_channels function s
-  pub least : 1 ≤ first.interval
   pub most : first.interval ≤ 4
   pub answers : has_its_feedback s.out first setting.second ≡ true
   pub fits : period_of first * nominal.hi * (g.channels * f.subslot) ≤ packet_room first
@@ -89,11 +97,9 @@ ran_of function s setting nominal g f first e =
     let carried = and_parts _ _ linked.1 in
     let feedback = and_parts _ _ carried.1 in
     let asynchronous = and_parts _ _ carried.0 in
-    let at_least = and_parts _ _ asynchronous.1 in
-    let at_most = and_parts _ _ at_least.1 in
+    let at_most = and_parts _ _ asynchronous.1 in
     record {
       linked = eqb-true _ _ linked.0;
-      least = leb-true _ _ at_least.0;
       most = leb-true _ _ at_most.0;
       answers = feedback.0;
       fits = leb-true _ _ feedback.1;

@@ -1,20 +1,18 @@
 -- Packets of a stream fit its endpoint.
-use Rattle.std.proofs.Common.{◌≡◌, sym, subst, ℕ, ◌+◌, ◌*◌, ◌/◌, ◌<◌, ◌≤◌, ◌==◌, Some, arith}
-use Rattle.std.specs.List.{All}
+use Rattle.std.proofs.Common.{◌≡◌, sym, subst, ℕ, ◌+◌, ◌*◌, ◌/◌, ◌<◌, ◌≤◌, Some, arith}
 use Rattle.std.proofs.Math.Nat.{div-mul-le_self, le-div_iff_mul-le}
 use Rattle.std.proofs.lemmas.Nat.{mul-le}
 use Rattle.uac_descriptor.specs.Endpoints.{additional_transactions, packet_size}
 use Rattle.uac_descriptor.specs.BlockFields.{IsHighSpeed}
 use Rattle.uac_descriptor.specs.declared.standard.Endpoint.{Endpoint}
-use Rattle.uac_entities.specs.declared.stream.StreamInterface.{StreamInterface}
 use Rattle.uac_pcm.proofs.PacketsLemmas.{frame_bytes-pos}
 use Rattle.uac_topology.specs.Function.{FunctionFields}
-use Rattle.uac_topology.specs.FunctionKept.{AreInRange, IsSettingInRange}
+use Rattle.uac_topology.specs.FunctionKept.{AreInRange}
 use Rattle.uac_topology.specs.Topology.{IsSoundFunction}
 use Rattle.uac_topology.proofs.FunctionKeptRangeLemmas.{in_range}
 use Rattle.uac_alt.specs.AltStreams.{packet_room, stream_of, StreamFields}
 use Rattle.uac_alt.proofs.FormedLemmas.{stream_format}
-use Rattle.uac_alt.proofs.AltStreamsLemmas.{Parts, all_found, parts_of, ran_of}
+use Rattle.uac_alt.proofs.AltStreamsLemmas.{Parts, parts_of, ran_of, range_at}
 
 -- an endpoint of high speed carries at most three transactions of 1,024 bytes
 pub small_room : (e : Endpoint) → IsHighSpeed e → packet_room e ≤ 3072
@@ -26,8 +24,7 @@ small_room e high =
 pub first_room : (function : FunctionFields) (rate interface number : ℕ) (s : StreamFields) → AreInRange function.streams
     → (parts : Parts function rate interface number s) → packet_room parts.first ≤ 3072
 first_room function rate interface number s ranges parts =
-    let settings = all_found (λ (c : StreamInterface). All IsSettingInRange c.settings) (λ c. c.number == interface) function.streams parts.streaming_interface ranges parts.carried in
-    let range : IsSettingInRange parts.setting = all_found IsSettingInRange (λ t. t.number == number) parts.streaming_interface.settings parts.setting settings parts.set in
+    let range = range_at function interface number parts.streaming_interface parts.setting ranges parts.carried parts.set in
     small_room parts.first (range.first parts.first parts.has_first)
 
 -- a packet has at most 3072 bytes

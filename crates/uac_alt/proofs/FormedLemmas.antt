@@ -13,14 +13,14 @@ use Rattle.uac_entities.specs.declared.stream.StreamInterface.{StreamInterface}
 use Rattle.uac_pcm.specs.Frames.{IsFormat}
 use Rattle.uac_topology_rules.specs.Links.{is_clock, is_terminal}
 use Rattle.uac_topology.specs.Function.{FunctionFields}
-use Rattle.uac_topology.specs.FunctionKept.{IsSettingInRange, IsLink}
+use Rattle.uac_topology.specs.FunctionKept.{IsLink}
 use Rattle.uac_topology.specs.Topology.{IsSoundFunction}
 use Rattle.uac_topology.proofs.FunctionKeptChannelLemmas.{have_channels}
 use Rattle.uac_topology.proofs.FunctionKeptLinkLemmas.{are_links}
 use Rattle.uac_topology.proofs.FunctionKeptRangeLemmas.{in_range}
 use Rattle.uac_alt.specs.Formed.{HasFormat}
 use Rattle.uac_alt.specs.AltStreams.{StreamFields, linked_channels, stream_of}
-use Rattle.uac_alt.proofs.AltStreamsLemmas.{all_found, parts_of, ran_of}
+use Rattle.uac_alt.proofs.AltStreamsLemmas.{all_found, parts_of, ran_of, range_at}
 
 no_clock : (k : EntityKind) → is_terminal k ≡ true → is_clock k ≡ false
 no_clock kind.InputTerminal is = refl
@@ -46,8 +46,7 @@ pub has_format : (function : FunctionFields) (interface number : ℕ) (s : Strea
     → find (λ c. c.number == interface) function.streams ≡ Some s → find (λ t. t.number == number) s.settings ≡ Some setting
     → HasFormat function s setting
 has_format function interface number s setting sound carried set g f has_general has_type_one linked =
-    let ranges : All IsSettingInRange s.settings = all_found (λ (c : StreamInterface). All IsSettingInRange c.settings) (λ c. c.number == interface) function.streams s (in_range function sound) carried in
-    let range = (all_found IsSettingInRange (λ t. t.number == number) s.settings setting ranges set).format f has_type_one in
+    let range = (range_at function interface number s setting (in_range function sound) carried set).format f has_type_one in
     let links =
     all_found (λ (c : StreamInterface). All (λ (t : Setting). (g : General) → t.general ≡ Some g → IsLink function.entities c.terminal g.link) c.settings)
     (λ c. c.number == interface) function.streams s (are_links function sound) carried in

@@ -59,12 +59,12 @@ is_pcm g = g.format_type == 1 && g.formats % 2 == 1
 unfoldable pub linked_channels : FunctionFields → StreamInterface → ℕ
 linked_channels function s = channels_of function.entities s.terminal
 
--- a first endpoint that is asynchronous, has a packet every 1, 2, 4 or 8 microframes, and carries data, or from the device also data
--- that is feedback
+-- a first endpoint that is asynchronous, has a packet at least every 8 microframes, and carries data, or from the device also data that is
+-- feedback; in a sound function its interval is at least 1 (`settings_are_in_range` of uac_topology), so it is 1, 2, 4 or 8 microframes
 abbrev pub can_carry_data : Bool → Endpoint → Bool
 can_carry_data out e =
     synchronization_type e.attributes == 1
-    && (nat_le 1 e.interval && (nat_le e.interval 4 && (usage_type e.attributes == 0 || (not out && usage_type e.attributes == 2))))
+    && (nat_le e.interval 4 && (usage_type e.attributes == 0 || (not out && usage_type e.attributes == 2)))
 
 -- a second endpoint for feedback: a report of four bytes, as often as the first endpoint has a packet or less often, at most every 8
 -- microframes

@@ -4,6 +4,7 @@ ghost use Rattle.std.specs.Bool.{OnTrue};
 ghost use Rattle.std.specs.List.{find};
 ghost use Rattle.std.specs.Option.{option_map};
 ghost use Rattle.uac_clock.specs.Nominal.{IsNominal};
+ghost use Rattle.uac_topology.specs.FunctionKept.{IsSettingInRange};
 ghost use Rattle.uac_alt.specs.Formed.{HasFormat};
 ghost use Rattle.uac_alt.specs.AltStreams as spec;
 ghost use Rattle.uac_alt.specs.AltStreams.{stream_fields, stream_of};
@@ -52,7 +53,8 @@ fn stream_at(
     setting: &Setting,
     nominal: Nominal,
 ) -> Option<Stream>
-    requires { HasFormat function.now streaming.now setting.now }
+    requires format { HasFormat function.now streaming.now setting.now }
+    requires range { IsSettingInRange setting.now }
     ensures value { option_map stream_fields result ≡ spec.stream_at function.now streaming.now setting.now nominal }
     ensures nominal { IfSome result (λ s. s.nominal ≡ nominal) }
 {
@@ -90,6 +92,7 @@ fn can_run(
     type_one: &TypeOne,
     first: &Endpoint,
 ) -> bool
+    requires { 1 ≤ first.now.interval }
     ensures value { result ≡ spec.can_run function.now streaming.now setting.now nominal.now general.now type_one.now first.now }
     ensures channels { OnTrue result (general.now.channels ≡ spec.linked_channels function.now streaming.now) }
     ensures data { OnTrue result (spec.can_carry_data streaming.now.out first.now ≡ true) }
@@ -110,16 +113,15 @@ fn is_pcm(general: &General) -> bool
     general.format_type == 1 && general.formats % 2 == 1
 }
 
-/// Whether the first endpoint carries the stream: it is asynchronous, has a packet every 1, 2, 4 or 8 microframes, and its
-/// usage is data, or from the device also data that is feedback (USB 2.0, 9.6.6).
+/// Whether the first endpoint carries the stream: it is asynchronous, has a packet every 1, 2, 4 or 8 microframes, which is
+/// an interval of 1 to 4, and its usage is data, or from the device also data that is feedback (USB 2.0, 9.6.6). No sound
+/// function has an interval of 0 there.
 fn can_carry_data(out: bool, endpoint: &Endpoint) -> bool
     ensures { result ≡ spec.can_carry_data out endpoint.now }
 {
     let bits = EndpointBits::of(endpoint.attributes);
     bits.is_asynchronous()
-        && (1 <= endpoint.interval
-            && (endpoint.interval <= 4
-                && (bits.is_data() || (!out && bits.is_implicit_feedback()))))
+        && (endpoint.interval <= 4 && (bits.is_data() || (!out && bits.is_implicit_feedback())))
 }
 
 /// Whether a second endpoint carries feedback: a report of four bytes, as often as the first endpoint has a packet or less

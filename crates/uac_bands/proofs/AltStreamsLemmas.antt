@@ -50,15 +50,15 @@ multiple (suc (suc (suc (suc a)))) b less most = absurd (omega arith)
 powers : (a b : ℕ) → a ≤ b → b ≤ 3 → AreIntervals (2 ^ a) (2 ^ b)
 powers a b less most = record { serves = interval a (omega arith); reports = interval b most; multiple = multiple a b less most }
 
-reports_later : (out : Bool) (first : Endpoint) (second : Option Endpoint) → 1 ≤ first.interval → has_its_feedback out first second ≡ true
+reports_later : (out : Bool) (first : Endpoint) (second : Option Endpoint) → has_its_feedback out first second ≡ true
     → out ≡ true → AreIntervals (period_of first) (report_period out second)
-reports_later true first (Some e) least answers is =
+reports_later true first (Some e) answers is =
     let later = and_parts (nat_le first.interval e.interval) _ answers in
     let from : first.interval ≤ e.interval = leb-true first.interval e.interval later.0 in
     let to : e.interval ≤ 4 = leb-true e.interval 4 (and_parts (nat_le e.interval 4) _ later.1).0 in
     powers (first.interval - 1) (e.interval - 1) (omega (arith, from)) (omega (arith, to))
-reports_later true first None least answers is = absurd (true≢false (sym answers))
-reports_later false first second least answers is = absurd (true≢false (sym is))
+reports_later true first None answers is = absurd (true≢false (sym answers))
+reports_later false first second answers is = absurd (true≢false (sym is))
 
 -- ---- a stream of a setting
 
@@ -84,7 +84,7 @@ parts_of function rate interface number stream is =
       streaming_interface = s;
       there = parts.carried;
       out = refl;
-      intervals = reports_later s.out first parts.setting.second ran.least ran.answers;
+      intervals = reports_later s.out first parts.setting.second ran.answers;
     } in
     subst (StreamParts function rate interface number) (sym parts.is) here
 

@@ -21,7 +21,8 @@ use Rattle.uac_running.specs.Events.{after_all_jacks, domain_microframe, domain_
 use Rattle.uac_bands.specs.Life.{Life, ticks_taken, with_packet, with_step}
 use Rattle.uac_bands.specs.Bands.{IsSteadyMicroframe}
 use Rattle.uac_bands.specs.BandRun.{MicroframesFindNoneEmpty, RunInBand, StreamInBand}
-use Rattle.uac_bands.proofs.TellingTurnLemmas.{Among, apart_from, clock_among, first_or_later, other_number}
+use Rattle.uac_streaming.proofs.AmongLemmas.{Among, among_cases, apart_from}
+use Rattle.uac_bands.proofs.TellingTurnLemmas.{clock_among, other_number}
 use Rattle.uac_bands.proofs.LifeTurnLemmas.{IsPlace, Place, Shows, packet_at, packet_shown, track_after}
 use Rattle.uac_bands.proofs.LifeTickLemmas.{advanced_elsewhere, advanced_own, domain_elsewhere, domain_own, jacks_show, on_clock_only, so_many, step_at, tick_other, tick_own}
 use Rattle.uac_bands.proofs.ProjectionLifeLemmas.{opened, packets_in, packets_out, place_in, step_is}
@@ -153,7 +154,7 @@ module _ (p : Place) (is : IsPlace p) where
       → Shows p (streaming_of r) l t → Holds l → All Not (domain_microframes clocks r).lines
   unfolding domain_microframes
   all_domains_say [] r l t once there s holds = All-nil Not
-  all_domains_say (c ∷ cs) r l t once there s holds = elim (first_or_later p.clock c cs there) [
+  all_domains_say (c ∷ cs) r l t once there s holds = elim (among_cases p.clock c cs there) [
     | inl same ↦
         All-append Not (domain_microframe c r).lines (domain_microframes cs (domain_microframe c r).world).lines
         (subst (λ (m : ℕ). All Not (domain_microframe m r).lines) (sym same) (own_domain r l t s holds))

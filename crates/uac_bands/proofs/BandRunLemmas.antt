@@ -26,7 +26,8 @@ use Rattle.uac_bands.specs.Life.{Life, domain_on, life_of}
 use Rattle.uac_bands.specs.Bands.{InBand, IsSlightStep, IsSteadyMicroframe}
 use Rattle.uac_bands.specs.Projection.{IsOrdered, Runs, next_domain, next_life}
 use Rattle.uac_bands.specs.BandRun.{RunInBand, SteadyMicroframesKeepBands, StreamInBand}
-use Rattle.uac_bands.proofs.TellingTurnLemmas.{all_among, among_range}
+use Rattle.uac_streaming.proofs.AmongLemmas.{among_range}
+use Rattle.uac_bands.proofs.TellingTurnLemmas.{all_among}
 use Rattle.uac_bands.proofs.ProjectionLifeLemmas.{mapped, microframes_are_lived}
 use Rattle.uac_bands.proofs.ProjectionKeptLemmas.{microframes_keep_order, microframes_keep_the_rest}
 use Rattle.uac_bands.proofs.ProjectionPacketLemmas.{microframes_keep_fed, out_stream_after, packets_have_their_frames}

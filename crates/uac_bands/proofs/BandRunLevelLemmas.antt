@@ -22,7 +22,8 @@ use Rattle.uac_bands.specs.Life.{Life, life_after, with_end, with_feedback, with
 use Rattle.uac_bands.specs.Bands.{microframes_since_due}
 use Rattle.uac_bands.specs.Projection.{next_life}
 use Rattle.uac_bands.specs.BandRun.{RunInBand, SteadyMicroframesTellNear, StreamInBand}
-use Rattle.uac_bands.proofs.TellingTurnLemmas.{Among, clock_among, numbers_differ}
+use Rattle.uac_streaming.proofs.AmongLemmas.{Among}
+use Rattle.uac_bands.proofs.TellingTurnLemmas.{clock_among, numbers_differ}
 use Rattle.uac_bands.proofs.LifeTurnLemmas.{Place, Shows, packet_at, packet_shown, settled_here, settled_other, track_after}
 use Rattle.uac_bands.proofs.LifeTickLemmas.{step_at}
 use Rattle.uac_bands.proofs.ProjectionLifeLemmas.{before_the_end, opened, place_in, step_is}

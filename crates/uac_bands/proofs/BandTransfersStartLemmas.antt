@@ -30,7 +30,8 @@ use Rattle.uac_device.specs.Linked.{IsBusInput}
 use Rattle.uac_device.proofs.LinkedLemmas.{linked}
 use Rattle.uac_running.specs.RunningWorld.{at_start}
 use Rattle.uac_bands.specs.BandTransfers.{RunsStartSound}
-use Rattle.uac_bands.proofs.TellingTurnLemmas.{Among, among_kept, own_number}
+use Rattle.uac_streaming.proofs.AmongLemmas.{Among, among_kept}
+use Rattle.uac_bands.proofs.TellingTurnLemmas.{own_number}
 use Rattle.uac_bands.proofs.ProjectionLemmas.{resting_clocks}
 use Rattle.uac_bands.proofs.BandTransfersRunLemmas.{known_clock}
 

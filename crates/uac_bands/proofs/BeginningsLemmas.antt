@@ -27,8 +27,8 @@ use Rattle.uac_bands.proofs.ProjectionLemmas.{deviations_keep_order, starts_are_
 
 pub runs_start_in_band : RunsStartInBand
 unfolding at_start fresh fresh_host
-runs_start_in_band descriptor function meters sound numbers = record {
-  ordered = starts_are_ordered function sound numbers;
+runs_start_in_band descriptor function meters sound = record {
+  ordered = starts_are_ordered function sound;
   hosts = refl;
   few = (small function sound).1;
   streams = λ k o there. absurd (let none : None ≡ Some o = there in cc);

@@ -17,7 +17,8 @@ use Rattle.uac_running.specs.declared.jacks.Jack.{Jack}
 use Rattle.uac_running.specs.RunningWorld.{RunningWorld, streaming_of}
 use Rattle.uac_running.specs.Events.{after_all_jacks, domain_microframe, domain_microframes, after_jacks, next_frame, tick, tick_times}
 use Rattle.uac_bands.specs.Life.{Life, ticks_taken, with_step}
-use Rattle.uac_bands.proofs.TellingTurnLemmas.{Among, domain_other, domain_same, own_number, row_once, where_false, where_true}
+use Rattle.uac_streaming.proofs.AmongLemmas.{Among}
+use Rattle.uac_bands.proofs.TellingTurnLemmas.{domain_other, domain_same, own_number, row_once, where_false, where_true}
 use Rattle.uac_bands.proofs.LifeTurnLemmas.{IsPlace, Place, Shows}
 
 -- ---- streams of one domain

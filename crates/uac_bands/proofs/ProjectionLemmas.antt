@@ -1,5 +1,6 @@
 -- Devices are ordered at the start, and stay so.
 use Rattle.std.proofs.Common.{◌≡◌, ◌∙◌, refl, ap, ℕ, ◌==◌, ◌&&◌, Bool, true, false, if◌then◌else◌, ℤ, List, [], ◌∷◌, map, Option, Some, None}
+use Rattle.uac_topology.proofs.FunctionKeptNumberLemmas.{are_numbered}
 use Rattle.uac_alt.specs.AltStreams.{StreamFields}
 use Rattle.uac_request.specs.Requests.{after_request, request_state, reply_of, sets_interface, is_done_answer}
 use Rattle.uac_device.specs.DeviceWorld.{DeviceWorld, Domain, resting_domain, after_control, after_deviation, fresh, after_restart, stream_in_setting}
@@ -17,10 +18,10 @@ resting_clocks (c ∷ cs) = ap (λ (ns : List ℕ). c ∷ ns) (resting_clocks cs
 
 pub starts_are_ordered : StartsAreOrdered
 unfolding fresh
-starts_are_ordered function sound numbers = record {
+starts_are_ordered function sound = record {
   apart = domains_apart function sound;
   domains = resting_clocks function.domains;
-  numbers = numbers;
+  numbers = (are_numbered function sound).bytes;
 }
 
 abbrev pub clocks_of : List Domain → List ℕ

@@ -17,7 +17,8 @@ use Rattle.uac_running.specs.RunningWorld.{RunningWorld, streaming_of, with_stre
 use Rattle.uac_running.specs.Events.{domain_microframes, ends_and_reports, microframe, packets_and_ticks}
 use Rattle.uac_bands.specs.Life.{Life, domain_id_on, domain_on, life_after, life_of, with_end, with_feedback, with_packet, with_step}
 use Rattle.uac_bands.specs.Projection.{IsOrdered, MicroframesAreLived, Runs, TracksGoOn, next_domain, next_life, next_track}
-use Rattle.uac_bands.proofs.TellingTurnLemmas.{Among, clock_among, known_among, numbers_differ, turns_keep, turns_once}
+use Rattle.uac_streaming.proofs.AmongLemmas.{Among, known_among}
+use Rattle.uac_bands.proofs.TellingTurnLemmas.{clock_among, numbers_differ, turns_keep, turns_once}
 use Rattle.uac_bands.proofs.LifeTurnLemmas.{IsPlace, Place, Shows, in_any, out_here, out_other, packet_at, packet_shown, report_here, report_other, settled_here, settled_other, track_after}
 use Rattle.uac_bands.proofs.LifeTickLemmas.{domains_show, step_at}
 

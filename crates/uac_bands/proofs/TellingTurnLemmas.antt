@@ -1,37 +1,22 @@
 -- Something for each number of a row, one after the other: what happens at one of them, where the numbers differ.
-use Rattle.std.proofs.Common.{◌≡◌, ◌∙◌, sym, refl, ap, subst, arith, ℕ, zero, suc, ◌+◌, ◌≤◌, ◌<◌, ◌⊎◌, ◌==◌, nat_eq, Bool, true, false, if◌then◌else◌, cond, List, [], ◌∷◌, map, filter, Option, Some, None, is_some, inl, inr}
-use Rattle.std.specs.List.{All, AllByRecursion, IsDistinct, find, fold, list_all, range_with_len}
+use Rattle.std.proofs.Common.{◌≡◌, ◌∙◌, sym, refl, ap, subst, arith, ℕ, ◌⊎◌, ◌==◌, nat_eq, Bool, true, false, if◌then◌else◌, cond, List, [], ◌∷◌, map, Option, Some, None, is_some, inl, inr}
+use Rattle.std.specs.List.{AllByRecursion, IsDistinct, find, fold, list_all, range_with_len}
 use Rattle.std.specs.Option.{option_map}
-use Rattle.std.proofs.lemmas.Bool.{and_parts, cases_eq, eqb-true, true≢false}
-use Rattle.std.proofs.lemmas.List.Elements.{All-head, All-tail}
-use Rattle.std.proofs.lemmas.Map.Keys.{IsDistinct-cons, IsDistinct-head, IsDistinct-tail}
-use Rattle.uac_entities.specs.declared.stream.StreamInterface.{StreamInterface}
+use Rattle.std.proofs.lemmas.Bool.{and_parts, eqb-true}
+use Rattle.std.proofs.lemmas.Map.Keys.{IsDistinct-head, IsDistinct-tail}
 use Rattle.uac_topology.specs.Function.{FunctionFields, interface_in}
 use Rattle.uac_device_streams.specs.InterfaceStreams.{streams_changed_at, changed_where}
 use Rattle.uac_device.specs.DeviceWorld.{Domain}
 use Rattle.uac_mixer.proofs.MixerElementsKeyLemmas.{numbers_apart}
 use Rattle.uac_streaming.specs.Telling.{Telling, in_turn}
 use Rattle.uac_streaming.specs.StreamingWorld.{numbers}
-
--- a number stands in a list
-unfoldable pub Among : ℕ → List ℕ → Type 0
-Among n [] = ⊥
-Among n (m ∷ ms) = (m ≡ n) ⊎ Among n ms
-
-pub first_or_later : (n m : ℕ) (ms : List ℕ) → Among n (m ∷ ms) → (m ≡ n) ⊎ Among n ms
-unfolding Among
-first_or_later n m ms there = there
+use Rattle.uac_streaming.proofs.AmongLemmas.{Among, apart_from, kept_distinct}
 
 pub other_number : (m n : ℕ) → nat_eq m n ≡ false → (n == m) ≡ false
 other_number m n other = grind arith
 
 pub own_number : (n : ℕ) → (n == n) ≡ true
 own_number n = grind arith
-
-pub apart_from : (n m : ℕ) (ns : List ℕ) → AllByRecursion (λ y. nat_eq n y ≡ false) ns → Among m ns → nat_eq n m ≡ false
-unfolding Among
-apart_from n m [] all there = absurd there
-apart_from n m (y ∷ ns) all there = elim there [ inl same ↦ subst (λ (z : ℕ). nat_eq n z ≡ false) same all.0 | inr rest ↦ apart_from n m ns all.1 rest ]
 
 -- ---- rows
 
@@ -103,33 +88,9 @@ none_at {S = S} n k change streams none = by (k == n)
 
 -- ---- the numbers of interfaces
 
-kept_false : (test : ℕ → Bool) (n : ℕ) (ns : List ℕ) → AllByRecursion (λ y. nat_eq n y ≡ false) ns
-    → AllByRecursion (λ y. nat_eq n y ≡ false) (filter test ns)
-kept_false test n [] all = tt
-kept_false test n (m ∷ ms) all = by (test m) (kept_false test n ms all.1)
-  where
-    by : (b : Bool) → AllByRecursion (λ y. nat_eq n y ≡ false) (filter test ms)
-        → AllByRecursion (λ y. nat_eq n y ≡ false) (cond b (m ∷ filter test ms) (filter test ms))
-    by true rest = (all.0, rest)
-    by false rest = rest
-
-kept_distinct : (test : ℕ → Bool) (ns : List ℕ) → IsDistinct nat_eq ns → IsDistinct nat_eq (filter test ns)
-kept_distinct test [] once = once
-kept_distinct test (n ∷ ns) once =
-    by (test n) (kept_distinct test ns (IsDistinct-tail nat_eq n ns once))
-  where
-    by : (b : Bool) → IsDistinct nat_eq (filter test ns) → IsDistinct nat_eq (cond b (n ∷ filter test ns) (filter test ns))
-    by true rest = IsDistinct-cons nat_eq n (filter test ns) (kept_false test n ns (IsDistinct-head nat_eq n ns once)) rest
-    by false rest = rest
-
 pub numbers_differ : (function : FunctionFields) → IsDistinct nat_eq (numbers function)
 unfolding numbers
 numbers_differ function = kept_distinct (λ n. is_some (interface_in function n)) (range_with_len 0 256) (numbers_apart 0 256)
-
-pub among_range : (k from count : ℕ) → from ≤ k → k < from + count → Among k (range_with_len from count)
-unfolding Among
-among_range k from zero low high = absurd (omega arith)
-among_range k from (suc count) low high = elim (cases_eq from k) [ inl same ↦ inl same | inr other ↦ inr (among_range k (from + 1) count (omega (arith, other)) (omega arith)) ]
 
 -- what all of these pass, one of them does
 pub all_among : (test : ℕ → Bool) (n : ℕ) (ns : List ℕ) → Among n ns → list_all test ns ≡ true → test n ≡ true
@@ -141,37 +102,6 @@ all_among test n (m ∷ ms) there all =
       | inl same ↦ subst (λ (x : ℕ). test x ≡ true) same both.0
       | inr later ↦ all_among test n ms later both.1
     ]
-
-among_one : (test : ℕ → Bool) (k n : ℕ) (ns : List ℕ) (b : Bool) → test n ≡ b → test k ≡ true → (n ≡ k) ⊎ Among k ns
-    → Among k (cond b (n ∷ ns) ns)
-unfolding Among
-among_one test k n ns true _ passes there = there
-among_one test k n ns false fails passes (inl same) = absurd (true≢false (sym passes ∙ ap test (sym same) ∙ fails))
-among_one test k n ns false fails passes (inr later) = later
-
-pub among_kept : (test : ℕ → Bool) (k : ℕ) (ns : List ℕ) → test k ≡ true → Among k ns → Among k (filter test ns)
-unfolding Among
-among_kept test k [] passes there = absurd there
-among_kept test k (n ∷ ns) passes there =
-    among_one test k n (filter test ns) (test n) refl passes (elim there [ inl same ↦ inl same | inr later ↦ inr (among_kept test k ns passes later) ])
-
-found_below : (k : ℕ) (ss : List StreamInterface) (s : StreamInterface) → All (λ t. t.number < 256) ss
-    → find (λ t. t.number == k) ss ≡ Some s → k < 256
-found_below k [] s all e = absurd (cc)
-found_below k (t ∷ ts) s all e = by (t.number == k) refl e (found_below k ts s (All-tail (λ t. t.number < 256) t ts all))
-  where
-    by : (b : Bool) → (t.number == k) ≡ b → cond b (Some t) (find (λ t. t.number == k) ts) ≡ Some s
-        → (find (λ t. t.number == k) ts ≡ Some s → k < 256) → k < 256
-    by true same _ _ = subst (λ (n : ℕ). n < 256) (eqb-true t.number k same) (All-head (λ t. t.number < 256) t ts all)
-    by false _ later rest = rest later
-
--- the number of an interface that is there is one of them
-pub known_among : (function : FunctionFields) (k : ℕ) (s : StreamInterface) → All (λ t. t.number < 256) function.streams
-    → find (λ t. t.number == k) function.streams ≡ Some s → Among k (numbers function)
-unfolding numbers
-known_among function k s numbered known =
-    among_kept (λ n. is_some (find (λ t. t.number == n) function.streams)) k (range_with_len 0 256) (ap is_some known)
-    (among_range k 0 256 (omega arith) (found_below k function.streams s numbered known))
 
 -- ---- domains
 

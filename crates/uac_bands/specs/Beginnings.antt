@@ -1,6 +1,5 @@
 -- How a run comes into its bands, and what else than microframes keeps it there (profile).
-use Rattle.std.specs.Prelude.{◌≡◌, ◌<◌, ℕ, ℤ, Bool, true, List}
-use Rattle.std.specs.List.{All}
+use Rattle.std.specs.Prelude.{◌≡◌, ℕ, ℤ, Bool, true, List}
 use Rattle.uac_pcm.specs.declared.tones.Tone.{Tone}
 use Rattle.uac_units.specs.Hearing.{Reading}
 use Rattle.uac_rate.specs.Steadiness.{is_slight}
@@ -14,7 +13,7 @@ use Rattle.uac_bands.specs.BandRun.{RunInBand}
 abbrev pub RunsStartInBand : Type 0
 RunsStartInBand =
     (descriptor : List ℕ) (function : FunctionFields) (meters : List Reading) → IsSoundFunction function
-    → All (λ s. s.number < 256) function.streams → RunInBand (at_start descriptor function meters)
+    → RunInBand (at_start descriptor function meters)
 
 -- what is asked of it between microframes, but for control transfers, keeps it there; a deviation does where it is at most a thousandth
 pub record StaysInBands (r : RunningWorld) : Type 0 where

@@ -77,8 +77,7 @@ MicroframesKeepOrder = (marks : List PhraseMark) (r : RunningWorld) → IsOrdere
 
 -- so it is at the start, and deviations, control requests and transfers leave it so
 abbrev pub StartsAreOrdered : Type 0
-StartsAreOrdered =
-    (function : FunctionFields) → IsSoundFunction function → All (λ s. s.number < 256) function.streams → IsOrdered (fresh function)
+StartsAreOrdered = (function : FunctionFields) → IsSoundFunction function → IsOrdered (fresh function)
 
 abbrev pub DeviationsKeepOrder : Type 0
 DeviationsKeepOrder = (clock : ℕ) (ppm : ℤ) (w : DeviceWorld) → IsOrdered w → IsOrdered (after_deviation clock ppm w)

@@ -1,7 +1,6 @@
 -- What the host knows is so after a control transfer, whatever came back of it.
 use Rattle.std.proofs.Common.{ℕ, ◌&&◌, Bool, true, false, if◌then◌else◌, List, Option, None, Some, is_some}
 use Rattle.uac_alt.specs.AltStreams.{StreamFields}
-use Rattle.uac_store.proofs.StoreControlsSoundLemmas.{keyed}
 use Rattle.uac_request.specs.Requests.{RequestState, AnswerFields, after_request, request_state, reply_of, sets_interface, is_done_answer}
 use Rattle.uac_request.specs.declared.setup.Setup.{Setup}
 use Rattle.uac_device.specs.DeviceWorld.{DeviceWorld, after_control, after_restart, stream_in_setting}
@@ -48,7 +47,7 @@ module _ (p : Setup) (bytes : List ℕ) (r : RunningWorld) (agree : IsBelieved r
 
   known : StaysAgreed r.device.function holds p bytes r.view
   known =
-      stays_known keyed r.device.function holds p bytes r.view agree.sound agree.store agree.of_function agree.agreed
+      stays_known r.device.function holds p bytes r.view agree.sound agree.store agree.of_function agree.agreed
 
   abbrev seen : Option AnswerFields → ViewWorld
   seen came = view_after r.device.function.control_interface p bytes came r.view

@@ -1,7 +1,6 @@
 -- From what a call came to, to what all of its input comes to.
 use Rattle.std.proofs.Common.{◌≡◌, ◌≢◌, ℕ, ◌⊎◌, inl, inr, List, Option, Some, refl, sym, ap, subst, ◌∙◌, arith}
 use Rattle.std.specs.Io.KnownBytes.{Appends}
-use Rattle.uac_descriptor.specs.BlockParsing.{AreBytes}
 use Rattle.uac_edges.specs.Faults.{Rose}
 use Rattle.uac_units.specs.Hearing.{Reading}
 use Rattle.uac_words.specs.declared.commands.Command.{Command}
@@ -50,11 +49,11 @@ module _ (w w' : Option (List ℕ)) (f f' : ℕ) (status : Status) (quiet : HasN
 
   module _ (shown shown' : List Reading) (a b : Option (List ℕ)) (r r' : ℕ) (bytes : List ℕ) (outcome : Outcome) where
     described_whole : (description : Description) → IsRun (Some (Describe description)) shown shown' a b r r' w w' f f' status → a ≡ Some bytes → HasNoFault r r'
-        → AreBytes bytes × IsOutcomeOf description bytes at_end outcome → IsWhole outcome
+        → IsOutcomeOf description bytes at_end outcome → IsWhole outcome
     described_whole description run is rests said = elim run.meant.0 as (λ _. IsWhole outcome) [
       | inl answers ↦
           whole_of run.outcome outcome
-          (said_once description bytes run.taken a b r r' run.end run.outcome outcome is run.consumed rests run.ended answers said.0 said.1) run.closed
+          (said_once description bytes run.taken a b r r' run.end run.outcome outcome is run.consumed rests run.ended answers said) run.closed
       | inr none ↦ wanted_of run.outcome outcome (ap (λ (o : Outcome). o.status) none) run.closed
     ]
 

@@ -1,7 +1,6 @@
 -- What a call comes to where nothing of the outside fails: what all of its input comes to, however little of that was taken (profile).
 use Rattle.std.specs.Prelude.{◌≡◌, ℕ, ◌⊎◌, true, List, Option, Some}
 use Rattle.std.specs.Io.KnownBytes.{Appends}
-use Rattle.uac_descriptor.specs.BlockParsing.{AreBytes}
 use Rattle.uac_gen.specs.GeneratedScript.{script_of}
 use Rattle.uac_units.specs.Hearing.{Reading}
 use Rattle.uac_words.specs.declared.commands.Command.{Command}
@@ -23,9 +22,9 @@ ScriptComesTo shown bytes outcome = (ending : Ending) × IsTranscript shown byte
 -- What a command comes to over an input that is these bytes and no more: `check`, `show` and `elements` say what is said of them where they
 -- end, `run` does their lines to the end, `gen` does those of its number's script, and `settle` takes no input.
 abbrev pub ComesTo : Command → List Reading → List ℕ → Outcome → Type 0
-ComesTo commands.Check shown bytes outcome = AreBytes bytes × IsOutcomeOf Check bytes at_end outcome
-ComesTo commands.Show shown bytes outcome = AreBytes bytes × IsOutcomeOf Show bytes at_end outcome
-ComesTo commands.Elements shown bytes outcome = AreBytes bytes × IsOutcomeOf Elements bytes at_end outcome
+ComesTo commands.Check shown bytes outcome = IsOutcomeOf Check bytes at_end outcome
+ComesTo commands.Show shown bytes outcome = IsOutcomeOf Show bytes at_end outcome
+ComesTo commands.Elements shown bytes outcome = IsOutcomeOf Elements bytes at_end outcome
 ComesTo commands.Run shown bytes outcome = ScriptComesTo shown bytes outcome
 ComesTo (commands.Gen number) shown bytes outcome = ScriptComesTo shown (script_of number) outcome
 ComesTo commands.Settle shown bytes outcome = settle_outcome ≡ outcome

@@ -2,7 +2,6 @@
 use Rattle.std.proofs.Common.{◌≡◌, ℕ, List, ◌++◌, Option, None, Some, refl, sym, ap, subst, ◌∙◌}
 use Rattle.std.proofs.lemmas.List.{append-nil}
 use Rattle.std.specs.Io.KnownBytes.{Consumes, IsAtEnd}
-use Rattle.uac_descriptor.specs.BlockParsing.{AreBytes}
 use Rattle.uac_descriptor.specs.declared.block.Block.{Block}
 use Rattle.uac_sentence.specs.declared.faults.GrammarFault.{GrammarFault}
 use Rattle.uac_sentence.specs.Grammar.{first_fault}
@@ -73,23 +72,23 @@ one_verdict description blocks one other (is_broken fault first) (is_broken faul
     let both : Some fault ≡ Some fault' = sym first ∙ first' in let same : fault ≡ fault' = cc in ap (λ (fault : TopologyFault). outcome_of (unsound fault)) same
 
 -- one thing is said of bytes
-one_said : (description : Description) (bytes : List ℕ) (one other : Outcome) → AreBytes bytes → IsSaid description bytes one → IsSaid description bytes other → one ≡ other
-one_said description bytes one other are (at_fault fault first is) (at_fault fault' first' is') =
+one_said : (description : Description) (bytes : List ℕ) (one other : Outcome) → IsSaid description bytes one → IsSaid description bytes other → one ≡ other
+one_said description bytes one other (at_fault fault first is) (at_fault fault' first' is') =
     let both : Some fault ≡ Some fault' = sym first ∙ first' in let same : fault ≡ fault' = cc in is ∙ ap (λ (fault : GrammarFault). outcome_of (refusal fault)) same ∙ sym is'
-one_said description bytes one other are (at_fault fault first is) (at_blocks blocks sentence verdict) =
-    absurd (let both : None ≡ Some fault = sym (sentence_none bytes blocks are sentence) ∙ first in cc)
-one_said description bytes one other are (at_blocks blocks sentence verdict) (at_fault fault first is) =
-    absurd (let both : None ≡ Some fault = sym (sentence_none bytes blocks are sentence) ∙ first in cc)
-one_said description bytes one other are (at_blocks blocks sentence verdict) (at_blocks blocks' sentence' verdict') =
+one_said description bytes one other (at_fault fault first is) (at_blocks blocks sentence verdict) =
+    absurd (let both : None ≡ Some fault = sym (sentence_none bytes blocks sentence) ∙ first in cc)
+one_said description bytes one other (at_blocks blocks sentence verdict) (at_fault fault first is) =
+    absurd (let both : None ≡ Some fault = sym (sentence_none bytes blocks sentence) ∙ first in cc)
+one_said description bytes one other (at_blocks blocks sentence verdict) (at_blocks blocks' sentence' verdict') =
     one_verdict description blocks one other verdict
     (subst (λ (bs : List Block). IsTopologyVerdict description bs other) (sentence_unique bytes blocks' blocks sentence' sentence) verdict')
 
 -- what is said of what was taken is what is said of all the bytes
 pub said_once : (description : Description) (bytes taken : List ℕ) (left left' : Option (List ℕ)) (reads reads' : ℕ) (end : End) (outcome all : Outcome)
     → left ≡ Some bytes → Consumes left left' taken → HasNoFault reads reads' → HasEnded end left' reads reads' → IsOutcomeOf description taken end outcome
-    → AreBytes bytes → IsOutcomeOf description bytes at_end all → outcome ≡ all
-said_once description bytes taken left left' reads reads' end outcome all is consumed rests ended answers are whole =
-    one_said description bytes outcome all are
+    → IsOutcomeOf description bytes at_end all → outcome ≡ all
+said_once description bytes taken left left' reads reads' end outcome all is consumed rests ended answers whole =
+    one_said description bytes outcome all
     (said_by description bytes at_end outcome refl
     (said_of_all description bytes taken left' reads reads' end outcome (front_of left left' bytes taken is consumed) rests ended answers))
     (said_by description bytes at_end all refl whole)

@@ -1,6 +1,6 @@
 -- What the layers above the grammar rely on of the blocks that they are given: Audio Class 2.0, 4.7.2 (bNrInPins); Audio Data
 -- Formats 2.0, 2.3.1.6 (bSubslotSize, bBitResolution); USB 2.0, 9.6.5 and 9.6.6 (the numbers of interfaces, and endpoints).
-use Rattle.std.specs.Prelude.{◌≢◌, List, [], length, IsTrue}
+use Rattle.std.specs.Prelude.{◌≢◌, ℕ, ◌<◌, ◌≤◌, List, [], length, IsTrue}
 use Rattle.uac_descriptor.specs.Contexts.{EachIn, is_audio}
 use Rattle.uac_descriptor.specs.BlockFields.{is_isochronous, IsHighSpeed, IsTypeOneFormat}
 use Rattle.uac_descriptor.specs.BlockTurns.{BeginsWithControl, InTurn, interfaces_in}
@@ -9,21 +9,26 @@ use Rattle.uac_descriptor.specs.declared.context.Context.TheVariants as context
 use Rattle.uac_descriptor.specs.declared.block.Block as block
 use Rattle.uac_descriptor.specs.declared.block.Block.TheVariants as variant
 
--- what chooses or mixes has a pin, a format's numbers are in range, and an isochronous endpoint of an audio interface is one of high speed
+-- what chooses or mixes has a pin, and no more than fit a block with what else stands in it (Audio Class 2.0, 4.7.2.2: bLength is 7+p)
+abbrev pub ArePins : List ℕ → Type 0
+ArePins sources = (length sources ≢ 0) × (length sources ≤ 248)
+
+-- the number of an interface is a byte, what chooses or mixes has its pins, a format's numbers are in range, and an isochronous
+-- endpoint of an audio interface is one of high speed
 abbrev pub IsWellFormed : Context → block.Block → Type 0
 IsWellFormed context (variant.Configuration _) = Unit {0}
 IsWellFormed context (variant.Association _) = Unit {0}
-IsWellFormed context (variant.Interface _) = Unit {0}
+IsWellFormed context (variant.Interface i) = i.number < 256
 IsWellFormed context (variant.Endpoint e) = IsTrue (is_audio context) → IsTrue (is_isochronous e) → IsHighSpeed e
 IsWellFormed context (variant.Header _) = Unit {0}
 IsWellFormed context (variant.InputTerminal _) = Unit {0}
 IsWellFormed context (variant.OutputTerminal _) = Unit {0}
-IsWellFormed context (variant.Mixer m) = length m.sources ≢ 0
-IsWellFormed context (variant.Selector s) = length s.sources ≢ 0
+IsWellFormed context (variant.Mixer m) = ArePins m.sources
+IsWellFormed context (variant.Selector s) = ArePins s.sources
 IsWellFormed context (variant.Feature _) = Unit {0}
 IsWellFormed context (variant.Effect _) = Unit {0}
 IsWellFormed context (variant.ClockSource _) = Unit {0}
-IsWellFormed context (variant.ClockSelector c) = length c.sources ≢ 0
+IsWellFormed context (variant.ClockSelector c) = ArePins c.sources
 IsWellFormed context (variant.ClockMultiplier _) = Unit {0}
 IsWellFormed context (variant.General _) = Unit {0}
 IsWellFormed context (variant.TypeOne t) = IsTypeOneFormat t

@@ -25,15 +25,14 @@ interval (suc (suc (suc zero))) most = inr (inr (inr (omega arith)))
 interval (suc (suc (suc (suc n)))) most = absurd (omega arith)
 
 -- so often there are reports, where there are any
-reports_each : (out : Bool) (first : Endpoint) (second : Option Endpoint) → 1 ≤ first.interval → has_its_feedback out first second ≡ true
+reports_each : (out : Bool) (first : Endpoint) (second : Option Endpoint) → has_its_feedback out first second ≡ true
     → out ≡ true → IsInterval (report_period out second)
-reports_each true first (Some e) least answers is =
+reports_each true first (Some e) answers is =
     let later = and_parts _ _ answers in
-    let from : first.interval ≤ e.interval = leb-true first.interval e.interval later.0 in
     let to : e.interval ≤ 4 = leb-true e.interval 4 (and_parts _ _ later.1).0 in
-    interval (e.interval - 1) (omega (arith, from, to))
-reports_each true first None least answers is = absurd (cc)
-reports_each false first second least answers is = absurd (cc)
+    interval (e.interval - 1) (omega (arith, to))
+reports_each true first None answers is = absurd (cc)
+reports_each false first second answers is = absurd (cc)
 
 -- the channels that an interface's terminal has are those of the entity with its id
 pub channels_linked : (function : FunctionFields) (s : StreamInterface) → linked_channels function s ≡ (entity function.entities s.terminal).cluster.channels
@@ -59,7 +58,7 @@ stream_fits function sound rate interface number stream e =
           record {
             rate = (rate, parts.rated);
             serves = interval (first.interval - 1) (omega (arith, ran.most));
-            reports = reports_each s.out first parts.setting.second ran.least ran.answers;
+            reports = reports_each s.out first parts.setting.second ran.answers;
             fits = omega (arith, within, room);
           };
       streaming_interface = s;

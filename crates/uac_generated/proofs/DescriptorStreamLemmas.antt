@@ -22,7 +22,7 @@ use Rattle.uac_alt.specs.AltStreams.{StreamFields, stream_at, stream_of}
 use Rattle.uac_request.specs.Requests.{rate_at}
 use Rattle.uac_device.specs.DeviceWorld.{stream_in_setting}
 use Rattle.uac_streaming.specs.StreamingWorld.{stream_index}
-use Rattle.uac_bands.proofs.TellingTurnLemmas.{known_among}
+use Rattle.uac_streaming.proofs.AmongLemmas.{known_among}
 use Rattle.uac_configuration.specs.Description.{function_of}
 use Rattle.uac_running.specs.RunningNames.{has_out, names_stream}
 use Rattle.uac_generated.proofs.GeneratedDescriptorLemmas.{function_at}

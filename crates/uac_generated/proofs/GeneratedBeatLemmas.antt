@@ -17,7 +17,8 @@ use Rattle.uac_streaming.specs.StreamingWorld.{StreamingWorld, all_reported, all
 use Rattle.uac_running.specs.declared.jacks.Jack.{Jack}
 use Rattle.uac_running.specs.RunningWorld.{RunningWorld, streaming_of, with_streaming}
 use Rattle.uac_running.specs.Events.{after_all_jacks, domain_microframe, domain_microframes, ends_and_reports, microframe, next_frame, packets_and_ticks, tick, tick_times}
-use Rattle.uac_bands.proofs.TellingTurnLemmas.{Among, none_at, numbers_differ, own_number, turns_keep, turns_once}
+use Rattle.uac_streaming.proofs.AmongLemmas.{Among}
+use Rattle.uac_bands.proofs.TellingTurnLemmas.{none_at, numbers_differ, own_number, turns_keep, turns_once}
 use Rattle.uac_bands.proofs.LifeTurnLemmas.{if_false, if_true}
 use Rattle.uac_generated.proofs.SteadinessBeatLemmas.{Beat, beat_of, given_following, is_told, next_beat, told_at}
 

@@ -20,7 +20,7 @@ use Rattle.uac_streaming.specs.StreamingWorld.{StreamingWorld, after_following, 
 use Rattle.uac_running.specs.RunningWorld.{RunningWorld, at_start, streaming_of, with_deviation, with_track}
 use Rattle.uac_running.specs.RunningTransfers.{acts, breaks_before, after_transfer}
 use Rattle.uac_running.specs.Events.{microframe, microframes}
-use Rattle.uac_bands.proofs.TellingTurnLemmas.{Among}
+use Rattle.uac_streaming.proofs.AmongLemmas.{Among}
 use Rattle.uac_generated.proofs.GeneratedBeatLemmas.{Beats, Plays, microframe_beats}
 use Rattle.uac_generated.proofs.SteadinessLemmas.{KeepsReports, anew_kept, at_most, none_kept, off_kept, steady_of}
 use Rattle.uac_generated.proofs.PhraseLemmas.{rate_setup, setting_setup}

@@ -32,7 +32,7 @@ pub fn shown_stops_stay()
 /// from what was written, since nothing stops a reader there and it finds no other blocks.
 pub fn written_blocks_are_read_back()
     ensures written { (bytes : List ℕ) (blocks : List Block) → IsSentence bytes blocks → flat_map spelling blocks ≡ bytes }
-    ensures accepted { (blocks : List Block) → AreBytes (flat_map spelling blocks) → IsSentence (flat_map spelling blocks) blocks
+    ensures accepted { (blocks : List Block) → IsSentence (flat_map spelling blocks) blocks
         → first_stop (flat_map spelling blocks) ≡ None }
     ensures same { (blocks read : List Block) → IsSentence (flat_map spelling blocks) blocks → IsSentence (flat_map spelling blocks) read
         → read ≡ blocks }

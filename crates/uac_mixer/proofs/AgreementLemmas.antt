@@ -8,9 +8,8 @@ use Rattle.std.proofs.lemmas.List.Elements.{All-map}
 use Rattle.uac_entities.specs.EntityInterfaces.{entity_by_id}
 use Rattle.uac_entities.specs.declared.entity.Entity.{Entity}
 use Rattle.uac_topology.specs.Function.{FunctionFields}
-use Rattle.uac_topology.specs.Topology.{IsSoundFunction}
 use Rattle.uac_store.specs.declared.keys.Key.{Key}
-use Rattle.uac_store.specs.StoreControls.{IsKeyed, IsStoreOf, has_control, has_on, takes, takes_on}
+use Rattle.uac_store.specs.StoreControls.{IsStoreOf, has_control, has_on, takes, takes_on}
 use Rattle.uac_store.specs.Keyed.{same_key, value_of}
 use Rattle.uac_store.proofs.KeyedLemmas.{changed_alone, key_itself, one_key}
 use Rattle.uac_request.specs.Requests.{RequestState, Owner, AnswerFields, after_request, by_entity, cur_bytes, cur_named, entity_width, first_broken, high, is_done, is_signed, is_stalled, key_named, low, owner_of, reply_of, sent_value, value_bytes, value_from, with_bytes, with_descriptor}
@@ -54,7 +53,7 @@ held_as entities controls x store m = from (value_of controls x.key) refl where
   from (Some v) is = record {
     value = v;
     is = is;
-    fits = kinds.fits (length m.entity.sources) m.entity.attributes v (sym (ap (λ (o : Option Entity). option_map_or (takes_on x.key.selector v) o false) m.found) ∙ store.values x.key v is);
+    fits = kinds.fits (length m.entity.sources) m.entity.attributes v m.pins (sym (ap (λ (o : Option Entity). option_map_or (takes_on x.key.selector v) o false) m.found) ∙ store.values x.key v is);
   }
 
 -- ---- transfers of an element
@@ -269,9 +268,8 @@ agreement f h p sent view store are agreed = record {
   broken_before = mapped h.controls h.controls f p sent None view (λ x m known. broken_known f h p sent x store m h.controls (λ other. refl) known) are agreed;
 }
 
-pub stays_known : ((function : FunctionFields) → IsSoundFunction function → IsKeyed function.entities) → KnownValuesStay
-stays_known keys f h p sent view sound store is agreed =
-    agreement f h p sent view store (members f.entities view (keys f sound).apart is) agreed
+pub stays_known : KnownValuesStay
+stays_known f h p sent view sound store is agreed = agreement f h p sent view store (members f view sound is) agreed
 
 -- ---- values that are read
 

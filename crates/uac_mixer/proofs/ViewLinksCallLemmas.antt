@@ -3,7 +3,8 @@ use Rattle.std.proofs.Common.{◌≡◌, ◌∙◌, refl, ap, sym, subst, ℕ, �
 use Rattle.std.specs.Option.{option_map}
 use Rattle.std.proofs.lemmas.Option.{slice_get-map, slice_get_within, get_or_from_slice_get}
 use Rattle.uac_topology.specs.Function.{FunctionFields}
-use Rattle.uac_store.specs.StoreControls.{IsKeyed, IsStoreOf}
+use Rattle.uac_topology.specs.Topology.{IsSoundFunction}
+use Rattle.uac_store.specs.StoreControls.{IsStoreOf}
 use Rattle.uac_store.specs.Keyed.{value_of}
 use Rattle.uac_request.specs.Requests.{RequestState, AnswerFields, after_request, request_state, is_done, is_stalled, left_by, value_bytes, with_bytes}
 use Rattle.uac_request.specs.declared.setup.Setup.{Setup}
@@ -23,9 +24,9 @@ use Rattle.uac_mixer.proofs.ViewTransfersLemmas.{IsNarrow, get_broke, is_told, o
 use Rattle.uac_mixer.proofs.ViewLinksLemmas.{Went, kept_by, told_by, went}
 
 -- the element at an index is one of the function's
-pub member_at : (f : FunctionFields) (view : ViewWorld) (at : ℕ) (x : Element) → IsKeyed f.entities → IsViewOf f.entities view → slice_get view.elements at ≡ Some x → IsElementOf f.entities x
-member_at f view at x keys is there =
-    subst (IsElementOf f.entities) (get_or_from_slice_get view.elements at x x there) (members f.entities view keys.apart is at x (slice_get_within view.elements at x there))
+pub member_at : (f : FunctionFields) (view : ViewWorld) (at : ℕ) (x : Element) → IsSoundFunction f → IsViewOf f.entities view → slice_get view.elements at ≡ Some x → IsElementOf f.entities x
+member_at f view at x sound is there =
+    subst (IsElementOf f.entities) (get_or_from_slice_get view.elements at x x there) (members f view sound is at x (slice_get_within view.elements at x there))
 
 -- and after a transfer it has this value
 pub value_at : (control : ℕ) (p : Setup) (sent : List ℕ) (came : Option AnswerFields) (view : ViewWorld) (at : ℕ) (x : Element) → slice_get view.elements at ≡ Some x
@@ -43,12 +44,12 @@ pub record HasGot (control : ℕ) (x : Element) (at : ℕ) (came : Option Answer
   pub told : came ≡ Some (with_bytes (value_bytes (width_of x.kind) value))
   pub kept : option_map (λ (y : Element). y.value) (slice_get after.elements at) ≡ Some (Some value)
 
-pub got : (x : Element) (at : ℕ) (told : AnswerFields) (before after : ViewWorld) (old new : LinkFields) → IsKeyed old.device.function.entities → IsStoreOf old.device.function.entities old.device.controls
+pub got : (x : Element) (at : ℕ) (told : AnswerFields) (before after : ViewWorld) (old new : LinkFields) → IsSoundFunction old.device.function → IsStoreOf old.device.function.entities old.device.controls
     → IsViewOf old.device.function.entities before → slice_get before.elements at ≡ Some x → IsNarrow old.device.function.control_interface x
     → IsMade (get_of old.device.function.control_interface x) [] (Some told) before after old new → HasGot old.device.function.control_interface x at (Some told) before after old.device
-got x at told before after old new keys store is there n made =
+got x at told before after old new sound store is there n made =
     let f : FunctionFields = old.device.function in
-    let m : IsElementOf f.entities x = member_at f before at x keys is there in
+    let m : IsElementOf f.entities x = member_at f before at x sound is there in
     let value : IsHeldAs f.entities old.device.controls x = own_value f (kept_by old.device) x store m n in
     let same : told ≡ with_bytes (value_bytes (width_of x.kind) value.value) =
     told_by (get_of f.control_interface x) [] (Some told) old new made.transfer.answered told refl ∙ is_told f (kept_by old.device) x store m n in
@@ -130,13 +131,13 @@ pub record GetDone (at : ℕ) (r : ℤ) (before after : ViewWorld) (old new : Li
   pub as_before : IsAsBefore old.device new.device
 
 module _ (control : ℕ) (setup : Setup) (y : Element) (at : ℕ) (before after : ViewWorld) (old new : LinkFields) (is : setup ≡ element_setup 161 control y) (on : control ≡ old.device.function.control_interface)
-    (keys : IsKeyed old.device.function.entities) (store : IsStoreOf old.device.function.entities old.device.controls) (of : IsViewOf old.device.function.entities before) (there : slice_get before.elements at ≡ Some y)
+    (sound : IsSoundFunction old.device.function) (store : IsStoreOf old.device.function.entities old.device.controls) (of : IsViewOf old.device.function.entities before) (there : slice_get before.elements at ≡ Some y)
     (n : IsNarrow old.device.function.control_interface y) where
   get_step : (came : Option AnswerFields) → IsMade setup [] came before after old new → IsMade (get_of old.device.function.control_interface y) [] came before after old new
   get_step came made = setup_made 161 control setup y [] came before after old new is on made
 
   get_has : (told : AnswerFields) → IsMade setup [] (Some told) before after old new → HasGot old.device.function.control_interface y at (Some told) before after old.device
-  get_has told made = got y at told before after old new keys store of there n (get_step (Some told) made)
+  get_has told made = got y at told before after old new sound store of there n (get_step (Some told) made)
 
   read_value : (told : AnswerFields) (z : Element) (made : IsMade setup [] (Some told) before after old new) → slice_get after.elements at ≡ Some z → z.value ≡ Some (get_has told made).value
   read_value told z made it =
@@ -149,7 +150,7 @@ module _ (control : ℕ) (setup : Setup) (y : Element) (at : ℕ) (before after 
   pub get_done : (told : AnswerFields) (z : Element) (r r' : ℤ) → IsMade setup [] (Some told) before after old new → slice_get after.elements at ≡ Some z → z.value ≡ Some r → (FitsSigned w32 r → r' ≡ r) → GetDone at r' before after old new
   get_done told z r r' made it has back =
       let g : HasGot old.device.function.control_interface y at (Some told) before after old.device = get_has told made in
-      let m : IsElementOf old.device.function.entities y = member_at old.device.function before at y keys of there in
+      let m : IsElementOf old.device.function.entities y = member_at old.device.function before at y sound of there in
       let h : IsHeldAs old.device.function.entities old.device.controls y = own_value old.device.function (kept_by old.device) y store m n in
       let both : Some g.value ≡ Some r = sym (read_value told z made it) ∙ has in
       let same : g.value ≡ r = cc in

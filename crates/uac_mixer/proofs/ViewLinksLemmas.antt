@@ -5,7 +5,7 @@ use Rattle.uac_entities.specs.declared.entity.Entity.{Entity}
 use Rattle.uac_topology.specs.Function.{FunctionFields}
 use Rattle.uac_topology.specs.Topology.{IsSoundFunction}
 use Rattle.uac_store.specs.declared.keys.Key.{Key}
-use Rattle.uac_store.specs.StoreControls.{IsKeyed, IsStoreOf}
+use Rattle.uac_store.specs.StoreControls.{IsStoreOf}
 use Rattle.uac_request.specs.Requests.{RequestState, AnswerFields, after_request, request_state, reply_of}
 use Rattle.uac_request.specs.declared.setup.Setup.{Setup}
 use Rattle.uac_device.specs.DeviceKept.{DeviceFields, IsControlled}
@@ -79,13 +79,13 @@ pub viewed : (control : ℕ) (p : Setup) (sent : List ℕ) (came : Option Answer
 unfolding view_after
 viewed control p sent came entities view is = still_of control p sent came view.elements ∙ is
 
-pub made : (p : Setup) (sent : List ℕ) (came : Option AnswerFields) (before after : ViewWorld) (old new : LinkFields) → IsKeyed old.device.function.entities
+pub made : (p : Setup) (sent : List ℕ) (came : Option AnswerFields) (before after : ViewWorld) (old new : LinkFields) → IsSoundFunction old.device.function
     → IsStoreOf old.device.function.entities old.device.controls → IsViewOf old.device.function.entities before → IsTransferred p sent came old new
     → after ≡ view_after old.device.function.control_interface p sent came before → IsMade p sent came before after old new
-made p sent came before after old new keys store is transfer view =
+made p sent came before after old new sound store is transfer view =
     let way = went p sent came old new transfer.answered in
     let function : new.device.function ≡ old.device.function = same_function p sent came old.device new.device way in
-    let are = members old.device.function.entities before keys.apart is in
+    let are = members old.device.function before sound is in
     record {
       transfer = transfer;
       view = view;
@@ -95,11 +95,11 @@ made p sent came before after old new keys store is transfer view =
       agreed = λ agreed. subst (λ (v : ViewWorld). IsAgreed new.device.controls v) (sym view) (agreed_after p sent came old.device new.device before way store are agreed);
     }
 
-pub readable_made : (p : Setup) (sent : List ℕ) (came : Option AnswerFields) (before : ViewWorld) (old new : LinkFields) → IsKeyed old.device.function.entities
+pub readable_made : (p : Setup) (sent : List ℕ) (came : Option AnswerFields) (before : ViewWorld) (old new : LinkFields) → IsSoundFunction old.device.function
     → IsStoreOf old.device.function.entities old.device.controls → IsViewOf old.device.function.entities before → IsTransferred p sent came old new
     → All (IsReadable old.device.function.control_interface p sent came) before.elements
-readable_made p sent came before old new keys store is transfer =
-    readable old.device.function (kept_by old.device) p sent came before store (members old.device.function.entities before keys.apart is) (told_by p sent came old new transfer.answered)
+readable_made p sent came before old new sound store is transfer =
+    readable old.device.function (kept_by old.device) p sent came before store (members old.device.function before sound is) (told_by p sent came old new transfer.answered)
 
 -- a device that answered a request still has a value for each of its controls
 pub stored_by : (p : Setup) (sent : List ℕ) (told : AnswerFields) (old new : DeviceFields) → IsControlled p sent told old new → IsStoreOf old.function.entities old.controls
@@ -107,9 +107,6 @@ pub stored_by : (p : Setup) (sent : List ℕ) (told : AnswerFields) (old new : D
 stored_by p sent told old new is store = stored_after p sent (Some told) old new (inr (told, is, inr refl)) store
 
 -- ---- as the calls have it
-
-pub keyed : (given : FunctionFields) (function : FunctionFields) → ((f : FunctionFields) → IsSoundFunction f → IsKeyed f.entities) → IsSoundFunction given → given ≡ function → IsKeyed function.entities
-keyed given function keys sound is = subst (λ (f : FunctionFields). IsKeyed f.entities) is (keys given sound)
 
 module _ (control : ℕ) (p : Setup) (sent : List ℕ) (came : Option AnswerFields) (before : ViewWorld) (old : LinkFields) (is : control ≡ old.device.function.control_interface) where
   pub readable_step : All (IsReadable old.device.function.control_interface p sent came) before.elements → All (IsReadable control p sent came) before.elements

@@ -22,6 +22,4 @@ pub fn controls_keep_values()
 /// What a view knows of a device stays so, whatever came back of a transfer.
 pub fn known_values_stay()
     ensures { KnownValuesStay }
-{
-    sound_functions_have_keys_and_rates();
-}
+{}

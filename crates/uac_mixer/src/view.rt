@@ -27,7 +27,6 @@ use std::alloc::Global;
 use std::marker::Model;
 use uac_request::bytes::value_bytes;
 use uac_request::{Answer, Setup};
-use uac_store::laws::sound_functions_have_keys_and_rates;
 use uac_topology::laws::functions_are_sound;
 
 /// What a host knows of a device's controls: the elements of the device's function, each with its value or none.
@@ -113,7 +112,6 @@ impl View {
         ensures as_before { IsAsBefore (L.state link.old).device (L.state link.new).device }
     {
         functions_are_sound(link.function());
-        sound_functions_have_keys_and_rates();
         let control = link.function().control_interface();
         let setup = element_setup(GET, control, self.element(at));
         self.transfer_at(at, link, &setup, &[])?;
@@ -192,7 +190,6 @@ impl View {
             → IsMade setup.now sent.now (came_of result) self.now after (L.state link.old) (L.state link.new) }
     {
         functions_are_sound(link.function());
-        sound_functions_have_keys_and_rates();
         link.control(setup, sent)
     }
 

@@ -22,7 +22,8 @@ use Rattle.uac_running.specs.RunningWorld.{RunningWorld, streaming_of}
 use Rattle.uac_running.specs.Events.{after_all_jacks, domain_microframe, domain_microframes, tick, tick_times}
 use Rattle.uac_bands.specs.Life.{Life}
 use Rattle.uac_bands.specs.BandRun.{RunInBand, StreamInBand}
-use Rattle.uac_bands.proofs.TellingTurnLemmas.{Among, apart_from, first_or_later, numbers_differ, other_number}
+use Rattle.uac_streaming.proofs.AmongLemmas.{Among, among_cases, apart_from}
+use Rattle.uac_bands.proofs.TellingTurnLemmas.{numbers_differ, other_number}
 use Rattle.uac_bands.proofs.LifeTurnLemmas.{IsPlace, Place, Shows, if_false, out_other, packet_at, packet_shown}
 use Rattle.uac_bands.proofs.ProjectionLifeLemmas.{opened, place_in}
 use Rattle.uac_bands.proofs.BandsLemmas.{never_over_full}
@@ -244,7 +245,7 @@ module _ (p : Spot) (spot : IsSpot p) (after : ℕ) where
         → All Not (domain_microframes clocks r).lines
     unfolding domain_microframes
     ticks_have_room [] r once there s = All-nil Not
-    ticks_have_room (c ∷ cs) r once there s = elim (first_or_later p.clock c cs there) [
+    ticks_have_room (c ∷ cs) r once there s = elim (among_cases p.clock c cs there) [
       | inl same ↦
           All-append Not (domain_microframe c r).lines (domain_microframes cs (domain_microframe c r).world).lines
           (subst (λ (m : ℕ). All Not (domain_microframe m r).lines) (sym same) (own_domain r s))

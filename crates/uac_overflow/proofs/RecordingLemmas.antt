@@ -31,7 +31,8 @@ use Rattle.uac_bands.specs.Life.{domain_id_on, domain_on}
 use Rattle.uac_bands.specs.BandRun.{RunInBand}
 use Rattle.uac_bands.specs.BandTransfers.{IsSoundRun}
 use Rattle.uac_bands.proofs.LevelsMicroframeLemmas.{placed_at, times_more}
-use Rattle.uac_bands.proofs.TellingTurnLemmas.{Among, clock_among}
+use Rattle.uac_streaming.proofs.AmongLemmas.{Among}
+use Rattle.uac_bands.proofs.TellingTurnLemmas.{clock_among}
 use Rattle.uac_bands.proofs.RunningWorldLineLemmas.{fetched, microframe_says, numbered, ticked_on}
 use Rattle.uac_bands.proofs.LifeSteadyLemmas.{is_some_more}
 use Rattle.uac_bands.proofs.BandTransfersBandLemmas.{found_domain}

@@ -21,7 +21,8 @@ use Rattle.uac_streaming.specs.StreamingWorld.{StreamingWorld, all_reported, all
 use Rattle.uac_running.specs.declared.jacks.Jack.{Jack}
 use Rattle.uac_running.specs.RunningWorld.{RunningWorld}
 use Rattle.uac_running.specs.Events.{after_all_jacks, domain_microframe, domain_microframes, next_frame, tick, tick_times}
-use Rattle.uac_bands.proofs.TellingTurnLemmas.{Among, domain_other, domain_same, known_among, none_at, none_where, numbers_differ, own_number, row_once, turns_keep, turns_once, where_false, where_true}
+use Rattle.uac_streaming.proofs.AmongLemmas.{Among, known_among}
+use Rattle.uac_bands.proofs.TellingTurnLemmas.{domain_other, domain_same, none_at, none_where, numbers_differ, own_number, row_once, turns_keep, turns_once, where_false, where_true}
 use Rattle.uac_bands.proofs.LifeTurnLemmas.{if_false, if_true}
 use Rattle.uac_bands.proofs.LifeTickLemmas.{a_row, clock_only}
 use Rattle.uac_bands.proofs.ProjectionLifeLemmas.{mapped}

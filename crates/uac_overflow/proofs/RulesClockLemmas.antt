@@ -9,7 +9,7 @@ use Rattle.uac_topology_rules.specs.Rules.{is_output}
 use Rattle.uac_topology.specs.Function.{FunctionFields}
 use Rattle.uac_topology.specs.Topology.{IsSoundFunction}
 use Rattle.uac_graph.specs.Meaning.{entity}
-use Rattle.uac_bands.proofs.TellingTurnLemmas.{Among}
+use Rattle.uac_streaming.proofs.AmongLemmas.{Among}
 use Rattle.uac_bands.proofs.BandTransfersStartLemmas.{clock_known}
 
 output_is_terminal : (k : EntityKind) → is_output k ≡ true → is_terminal k ≡ true

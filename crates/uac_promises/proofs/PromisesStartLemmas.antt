@@ -28,7 +28,7 @@ module _ (laws : LawsOfSteps) (bytes : List ℕ) (meters : List Reading) (pasts 
       (λ more now are h. leaves_plain w (describing now meters) pasts [] are (All-nil IsPlain))
       (λ function is h. leaves_plain w (running (at_start bytes function meters)) pasts (ready_line function ∷ [])
       (record {
-        band = runs_start_in_band bytes function meters is.sound is.small;
+        band = runs_start_in_band bytes function meters is.sound;
         sound = runs_start_sound bytes function meters is.sound;
         recorded = laws.start_recorded bytes function meters;
         trails = laws.start_trailed bytes function meters pasts;

@@ -9,6 +9,7 @@ use Rattle.uac_entities.specs.declared.entity.EntityKind.{EntityKind}
 use Rattle.uac_entities.specs.declared.entity.EntityKind.TheVariants as kind
 use Rattle.uac_topology.specs.Function.{FunctionFields}
 use Rattle.uac_topology.specs.Topology.{IsSoundFunction}
+use Rattle.uac_topology.proofs.FunctionKeptNumberLemmas.{are_numbered}
 use Rattle.uac_alt.specs.declared.settings.InterfaceSetting.{InterfaceSetting}
 use Rattle.uac_store.specs.declared.keys.Key.{Key}
 use Rattle.uac_store.specs.ControlTable.{selectors_of}
@@ -122,10 +123,11 @@ module _ (function : FunctionFields) (own : function.control_interface < 256) (k
 -- ---- what the laws say
 
 -- a control that keeps a value and is declared answers with its value
-pub element_answered : (function : FunctionFields) (controls : List (Key × ℤ)) (settings : List InterfaceSetting) (k : Key) (v : ℤ) → IsSoundFunction function → function.control_interface < 256 → IsStoreOf function.entities controls → is_present function.entities k ≡ true → value_of controls k ≡ Some v
+pub element_answered : (function : FunctionFields) (controls : List (Key × ℤ)) (settings : List InterfaceSetting) (k : Key) (v : ℤ) → IsSoundFunction function → IsStoreOf function.entities controls → is_present function.entities k ≡ true → value_of controls k ≡ Some v
     → reply_of function (request_state controls settings) (get_of function k) [] ≡ with_bytes (value_bytes (width_at function.entities k) v)
 unfolding reply_of get_of
-element_answered function controls settings k v sound own store present is =
+element_answered function controls settings k v sound store present is =
+    let own : function.control_interface < 256 = (are_numbered function sound).control in
     let found = kept_in function.entities controls k v store is in
     let e : Entity = found.0 in
     let kept : IsKept function.entities k e = found.1 in
@@ -153,11 +155,12 @@ not_stalled None done = refl
 not_stalled (Some rule) done = cc
 
 -- a control whose request to set it is done holds the value that the bytes are
-element_set : (function : FunctionFields) (controls : List (Key × ℤ)) (settings : List InterfaceSetting) (k : Key) (v : ℤ) (sent : List ℕ) → IsSoundFunction function → function.control_interface < 256 → IsStoreOf function.entities controls → value_of controls k ≡ Some v
+element_set : (function : FunctionFields) (controls : List (Key × ℤ)) (settings : List InterfaceSetting) (k : Key) (v : ℤ) (sent : List ℕ) → IsSoundFunction function → IsStoreOf function.entities controls → value_of controls k ≡ Some v
     → reply_of function (request_state controls settings) (set_of function k) sent ≡ is_done
     → (after_request function (request_state controls settings) (set_of function k) sent ≡ request_state (with_value controls k (value_from (is_signed_at function.entities k) sent)) settings) × (length sent ≡ width_at function.entities k)
 unfolding reply_of after_request get_of set_of
-element_set function controls settings k v sent sound own store is done =
+element_set function controls settings k v sent sound store is done =
+    let own : function.control_interface < 256 = (are_numbered function sound).control in
     let found = kept_in function.entities controls k v store is in
     let e : Entity = found.0 in
     let kept : IsKept function.entities k e = found.1 in
@@ -173,8 +176,8 @@ element_set function controls settings k v sent sound own store is done =
       taken.whole ∙ wide,
     )
 
-pub set_holds : (function : FunctionFields) (controls : List (Key × ℤ)) (settings : List InterfaceSetting) (k : Key) (v : ℤ) (sent : List ℕ) → IsSoundFunction function → function.control_interface < 256 → IsStoreOf function.entities controls → value_of controls k ≡ Some v → reply_of function (request_state controls settings) (set_of function k) sent ≡ is_done → after_request function (request_state controls settings) (set_of function k) sent ≡ request_state (with_value controls k (value_from (is_signed_at function.entities k) sent)) settings
-set_holds function controls settings k v sent sound own store is done = (element_set function controls settings k v sent sound own store is done).0
+pub set_holds : (function : FunctionFields) (controls : List (Key × ℤ)) (settings : List InterfaceSetting) (k : Key) (v : ℤ) (sent : List ℕ) → IsSoundFunction function → IsStoreOf function.entities controls → value_of controls k ≡ Some v → reply_of function (request_state controls settings) (set_of function k) sent ≡ is_done → after_request function (request_state controls settings) (set_of function k) sent ≡ request_state (with_value controls k (value_from (is_signed_at function.entities k) sent)) settings
+set_holds function controls settings k v sent sound store is done = (element_set function controls settings k v sent sound store is done).0
 
-pub set_has_width : (function : FunctionFields) (controls : List (Key × ℤ)) (settings : List InterfaceSetting) (k : Key) (v : ℤ) (sent : List ℕ) → IsSoundFunction function → function.control_interface < 256 → IsStoreOf function.entities controls → value_of controls k ≡ Some v → reply_of function (request_state controls settings) (set_of function k) sent ≡ is_done → length sent ≡ width_at function.entities k
-set_has_width function controls settings k v sent sound own store is done = (element_set function controls settings k v sent sound own store is done).1
+pub set_has_width : (function : FunctionFields) (controls : List (Key × ℤ)) (settings : List InterfaceSetting) (k : Key) (v : ℤ) (sent : List ℕ) → IsSoundFunction function → IsStoreOf function.entities controls → value_of controls k ≡ Some v → reply_of function (request_state controls settings) (set_of function k) sent ≡ is_done → length sent ≡ width_at function.entities k
+set_has_width function controls settings k v sent sound store is done = (element_set function controls settings k v sent sound store is done).1

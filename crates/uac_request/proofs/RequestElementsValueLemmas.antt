@@ -1,10 +1,7 @@
 -- Controls by their keys: what the requests for their values and to set them are answered.
-use Rattle.std.proofs.Common.{◌≡◌, ◌∙◌, sym, ap, subst, refl, ℕ, ◌*◌, ◌<◌, ◌≤◌, ◌==◌, nat_lt, nat_le, true, false, List, length, sum, slice_get, Option, Some, None, is_some, unwrap_or, ℤ, arith, rules}
-use Rattle.std.specs.List.{All, position_or_len}
+use Rattle.std.proofs.Common.{◌≡◌, ◌∙◌, sym, ap, refl, ℕ, ◌*◌, ◌<◌, ◌≤◌, nat_lt, nat_le, true, false, List, length, sum, Option, Some, None, is_some, unwrap_or, ℤ, arith, rules}
 use Rattle.std.specs.Option.{option_map_or}
 use Rattle.std.proofs.lemmas.Bool.{and_parts, ltb-true}
-use Rattle.std.proofs.lemmas.List.Folds.{find_at}
-use Rattle.std.proofs.lemmas.Option.{get_or_from_slice_get, slice_get_within}
 use Rattle.uac_entities.specs.EntityInterfaces.{entity_by_id}
 use Rattle.uac_entities.specs.declared.entity.Entity.{Entity}
 use Rattle.uac_entities.specs.declared.entity.EntityKind.{EntityKind}
@@ -17,10 +14,10 @@ use Rattle.uac_store.specs.declared.keys.Key.{Key}
 use Rattle.uac_store.specs.ControlTable.{IsSmall, count_by, selectors_of, takes_by}
 use Rattle.uac_store.specs.StoreControls.{count_of, has_control, has_on, IsStoreOf, nodes_of, pins_of, takes, takes_on}
 use Rattle.uac_store.specs.Keyed.{value_of}
-use Rattle.uac_store.proofs.StoreControlsIdLemmas.{small_named}
+use Rattle.uac_store.proofs.StoreControlsIdLemmas.{all_named, few_pins, small_named}
 use Rattle.uac_store.proofs.StoreControlsSoundLemmas.{keyed}
 use Rattle.uac_request.specs.RequestElements.{is_signed_at, width_at}
-use Rattle.uac_request.specs.Requests.{entity_width, is_signed, IsWithin, value_bytes, value_from}
+use Rattle.uac_request.specs.Requests.{entity_width, is_signed, value_bytes, value_from}
 use Rattle.uac_request.proofs.RequestsByteLemmas.{taken_within, value_back, width_of_kept}
 
 -- ---- a control that keeps a value
@@ -53,13 +50,6 @@ kept_of entities k there = from (entity_by_id entities k.entity) refl there wher
 pub kept_in : (entities : List Entity) (controls : List (Key × ℤ)) (k : Key) (v : ℤ) → IsStoreOf entities controls → value_of controls k ≡ Some v → (e : Entity) × IsKept entities k e
 kept_in entities controls k v store is = kept_of entities k (sym (store.keys k) ∙ ap is_some is)
 
-all_named : (P : Entity → Type 0) (entities : List Entity) (id : ℕ) (e : Entity) → All P entities → entity_by_id entities id ≡ Some e → P e
-unfolding entity_by_id
-all_named P entities id e each is =
-    let place : ℕ = position_or_len (λ (x : Entity). x.id == id) entities in
-    let at : slice_get entities place ≡ Some e = sym (find_at (λ (x : Entity). x.id == id) entities) ∙ is in
-    subst P (get_or_from_slice_get entities place e e at) (each place e (slice_get_within entities place e at))
-
 -- a channel's number has one byte
 few_by : (k : EntityKind) (inputs channels channel : ℕ) → IsSmall k inputs channels → (is_clock k ≡ false → (1 ≤ channels) × (channels ≤ 32)) → channel < count_by k (inputs * channels) channels → channel < 256
 few_by kind.ClockSource inputs channels channel small clustered within = omega arith
@@ -80,23 +70,14 @@ few_channels function k e sound kept =
     (all_named (λ e. is_clock e.kind ≡ false → (1 ≤ e.cluster.channels) × (e.cluster.channels ≤ 32)) function.entities k.entity e (have_channels function sound) kept.is)
     (ltb-true k.channel (count_by e.kind (nodes_of function.entities e) e.cluster.channels) kept.within)
 
--- a held value is within its control's bytes
-pub held_within : (entities : List Entity) (controls : List (Key × ℤ)) (k : Key) (v : ℤ) → IsStoreOf entities controls → value_of controls k ≡ Some v → IsWithin (is_signed_at entities k) (width_at entities k) v
+-- a held value comes back from its control's bytes
+pub held_comes_back : (function : FunctionFields) (controls : List (Key × ℤ)) (k : Key) (v : ℤ) → IsSoundFunction function → IsStoreOf function.entities controls → value_of controls k ≡ Some v → value_from (is_signed_at function.entities k) (value_bytes (width_at function.entities k) v) ≡ v
 unfolding takes takes_on
-held_within entities controls k v store is =
-    let found = kept_in entities controls k v store is in
+held_comes_back function controls k v sound store is =
+    let found = kept_in function.entities controls k v store is in
     let e : Entity = found.0 in
-    let kept : IsKept entities k e = found.1 in
-    let taken : takes_by e.kind (length e.sources) e.attributes k.selector v ≡ true = ap (λ o. option_map_or (takes_on k.selector v) o false) (sym kept.is) ∙ store.values k v is in
-    rw kept.is (taken_within e.kind (length e.sources) e.attributes k.selector v kept.some kept.low taken)
-
-pub held_comes_back : (entities : List Entity) (controls : List (Key × ℤ)) (k : Key) (v : ℤ) → IsStoreOf entities controls → value_of controls k ≡ Some v → value_from (is_signed_at entities k) (value_bytes (width_at entities k) v) ≡ v
-unfolding takes takes_on
-held_comes_back entities controls k v store is =
-    let found = kept_in entities controls k v store is in
-    let e : Entity = found.0 in
-    let kept : IsKept entities k e = found.1 in
+    let kept : IsKept function.entities k e = found.1 in
     let taken : takes_by e.kind (length e.sources) e.attributes k.selector v ≡ true = ap (λ o. option_map_or (takes_on k.selector v) o false) (sym kept.is) ∙ store.values k v is in
     rw kept.is
     (value_back (unwrap_or (entity_width e.kind k.selector) 0) (width_of_kept e.kind k.selector kept.some kept.low) (is_signed e.kind k.selector) v
-    (taken_within e.kind (length e.sources) e.attributes k.selector v kept.some kept.low taken))
+    (taken_within e.kind (length e.sources) e.attributes k.selector v (few_pins function k.entity e sound kept.is) kept.some kept.low taken))

@@ -2,7 +2,7 @@
 use Rattle.std.proofs.Common.{◌≡◌, ◌∙◌, sym, ap, subst, refl, ℕ, zero, suc, ◌+◌, ◌-◌, ◌*◌, ◌/◌, ◌%◌, ◌^◌, ◌<◌, ◌==◌, ◌&&◌, ◌||◌, nat_le, Bool, true, false, ℤ, List, [], ◌∷◌, map, drop, length, Some, if◌then◌else◌, inl, inr, nat_eq, eqb-true, arith}
 use Rattle.std.specs.Prelude.{sum}
 use Rattle.std.specs.Int.{bit_at}
-use Rattle.std.specs.List.{find, list_any, range_with_len, sum_by, All, AllByRecursion}
+use Rattle.std.specs.List.{find, list_any, range_with_len, sum_by, AllByRecursion}
 use Rattle.std.proofs.Math.Nat.{div-div-eq-div-mul, div-one, mod-lt, pow-succ', zero-div}
 use Rattle.std.proofs.Math.Numerals.{add-one}
 use Rattle.std.proofs.Math.Pow.{mod-mod-pow}
@@ -19,6 +19,7 @@ use Rattle.uac_entities.specs.declared.stream.StreamInterface.{StreamInterface}
 use Rattle.uac_topology.specs.Function.{FunctionFields, interface_in}
 use Rattle.uac_topology.specs.Topology.{IsSoundFunction}
 use Rattle.uac_topology.proofs.FunctionKeptNumberLemmas.{are_numbered}
+use Rattle.uac_alt.proofs.AltStreamsLemmas.{all_found}
 use Rattle.uac_store.specs.declared.keys.Key.{Key}
 use Rattle.uac_request.specs.Requests.{has_setting, is_valid, map_bytes, valid_bytes, valid_sum}
 
@@ -91,18 +92,6 @@ bit_of test (suc n) (suc i) =
 
 -- ---- the settings of an interface
 
--- they are numbered from 0
-abbrev IsNumbered : StreamInterface → Type 0
-IsNumbered s = map (λ t. t.number) s.settings ≡ range_with_len 0 (length s.settings)
-
--- so are those of an interface that was found
-numbered_found : (n : ℕ) (streams : List StreamInterface) (s : StreamInterface) → All IsNumbered streams → find (λ t. t.number == n) streams ≡ Some s → IsNumbered s
-numbered_found n [] s each found = cc
-numbered_found n (t ∷ streams) s each found = elim (cases_Bool (t.number == n)) [
-  | inl same ↦ (let it : Some t ≡ Some s = rw same at found in let is : t ≡ s = cc in subst IsNumbered is (each 0 t (omega arith)))
-  | inr other ↦ numbered_found n streams s (λ k d below. each (suc k) d (omega (arith, below))) (rw other at found)
-]
-
 -- one that was found isn't the control interface
 other_found : (control n : ℕ) (streams : List StreamInterface) (s : StreamInterface) → AllByRecursion (λ m. nat_eq control m ≡ false) (map (λ t. t.number) streams)
     → find (λ t. t.number == n) streams ≡ Some s → (n == control) ≡ false
@@ -128,7 +117,8 @@ pub bit_by_bit : (function : FunctionFields) (controls : List (Key × ℤ)) (int
 bit_by_bit function controls interface s i sound found =
     let numbered = are_numbered function sound in
     let test : ℕ → Bool = is_valid function controls s in
-    let own : IsNumbered s = numbered_found interface function.streams s numbered.settings found in
+    let own : map (λ t. t.number) s.settings ≡ range_with_len 0 (length s.settings) =
+    all_found (λ u. map (λ t. t.number) u.settings ≡ range_with_len 0 (length u.settings)) (λ u. u.number == interface) function.streams s numbered.settings found in
     let other = other_found function.control_interface interface function.streams s (IsDistinct-head nat_eq function.control_interface (map (λ (t : StreamInterface). t.number) function.streams) numbered.different) found in
     let all : valid_sum function controls s s.settings ≡ weights test (range_with_len 0 (length s.settings)) =
     ap sum (sym (map-map (weight test) (λ (t : Setting). t.number) s.settings) ∙ ap (map (weight test)) own) ∙ all_weights test (range_with_len 0 (length s.settings)) in

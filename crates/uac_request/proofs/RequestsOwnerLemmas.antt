@@ -1,5 +1,5 @@
 -- What keeps a control, and the channels that it has.
-use Rattle.std.proofs.Common.{◌≡◌, ◌∙◌, sym, ℕ, ◌==◌, nat_lt, nat_le, true, false, List, Option, Some, None, is_some, refl, inl, inr, ℤ, rules}
+use Rattle.std.proofs.Common.{◌≡◌, ◌∙◌, sym, subst, ℕ, ◌==◌, nat_lt, nat_le, true, false, List, Option, Some, None, is_some, refl, inl, inr, ℤ, rules}
 use Rattle.std.proofs.lemmas.Bool.{cases_Bool}
 use Rattle.std.specs.Option.{option_map}
 use Rattle.uac_entities.specs.EntityInterfaces.{entity_by_id}
@@ -13,6 +13,7 @@ use Rattle.uac_store.specs.ControlTable.{count_by, selectors_of}
 use Rattle.uac_store.specs.StoreControls.{IsStoreOf, count_of, nodes_of, has_control, has_on}
 use Rattle.uac_store.specs.Keyed.{key_of, value_of}
 use Rattle.uac_request.specs.Requests.{by_entity, by_streaming_interface, high, low, owner_of}
+use Rattle.uac_request.proofs.FunctionInterfaceLemmas.{has_number}
 
 -- what an entity is by its constructor
 by_entity_alone : (found : Option Entity) (e : Entity) → option_map by_entity found ≡ Some (by_entity e) → found ≡ Some e
@@ -31,6 +32,25 @@ entity_named function index e is = elim (cases_Bool (low index == function.contr
   | inr other ↦ elim (cases_Bool (high index == 0)) [
     | inl none_named ↦ (let stream : option_map by_streaming_interface (interface_in function (low index)) ≡ Some (by_entity e) = rw (other, none_named) at is in let not_one : None ≡ Some e = not_by_stream (interface_in function (low index)) e stream in cc)
     | inr more ↦ (let none : None ≡ Some (by_entity e) = rw (other, more) at is in cc)
+  ]
+]
+
+by_stream_alone : (found : Option StreamInterface) (s : StreamInterface) → option_map by_streaming_interface found ≡ Some (by_streaming_interface s) → found ≡ Some s
+by_stream_alone (Some t) s same = cc
+by_stream_alone None s same = cc
+
+not_by_entity : (found : Option Entity) (s : StreamInterface) → option_map by_entity found ≡ Some (by_streaming_interface s) → None ≡ Some s
+not_by_entity (Some f) s same = cc
+not_by_entity None s same = cc
+
+-- a streaming interface that keeps a control is one of the function
+pub stream_named : (function : FunctionFields) (index : ℕ) (s : StreamInterface) → owner_of function index ≡ Some (by_streaming_interface s) → interface_in function s.number ≡ Some s
+unfolding owner_of
+stream_named function index s is = elim (cases_Bool (low index == function.control_interface)) [
+  | inl own ↦ (let entity : option_map by_entity (entity_by_id function.entities (high index)) ≡ Some (by_streaming_interface s) = rw own at is in let not_one : None ≡ Some s = not_by_entity (entity_by_id function.entities (high index)) s entity in cc)
+  | inr other ↦ elim (cases_Bool (high index == 0)) [
+    | inl none_named ↦ (let found : interface_in function (low index) ≡ Some s = by_stream_alone (interface_in function (low index)) s (rw (other, none_named) at is) in subst (λ n. interface_in function n ≡ Some s) (sym (has_number function.streams (low index) s found)) found)
+    | inr more ↦ (let none : None ≡ Some (by_streaming_interface s) = rw (other, more) at is in cc)
   ]
 ]
 

@@ -1,5 +1,6 @@
 // The bytes of a control's value now.
-ghost use Rattle.std.specs.Prelude.{◌≡◌, ◌≤◌, [], IfSome};
+ghost use Rattle.std.specs.Prelude.{◌≡◌, ◌≤◌, [], IfSome, Some};
+ghost use Rattle.uac_topology.specs.Function.{interface_in};
 ghost use Rattle.uac_request.specs.Owners.{owner_fields};
 ghost use Rattle.uac_request.specs.Requests as spec;
 ghost use Rattle.uac_request.specs.Requests.{request_state};
@@ -16,7 +17,7 @@ use uac_store::{Key, Store};
 use uac_topology::{Entity, EntityKind, Function, StreamInterface};
 
 /// Writes the bytes of a control's value now, whole.
-#[tactic(auto, unfolding(crate::specs::Requests::cur_bytes))]
+#[tactic(auto, unfolding(crate::specs::Requests::cur_bytes), using(crate::proofs::RequestsOwnerLemmas::stream_named))]
 pub(crate) fn write_cur(
     reply: &mut Reply,
     function: &Function,
@@ -25,7 +26,8 @@ pub(crate) fn write_cur(
     setup: &Setup,
     owner: Owner<'_>,
 )
-    requires { reply.old.items ≡ [] }
+    requires empty { reply.old.items ≡ [] }
+    requires owned { spec.owner_of function.now setup.now.index ≡ Some (owner_fields owner) }
     ensures { reply.new.items ≡ spec.cur_bytes function.now (request_state store.now settings.now) setup.now (owner_fields owner.entry) }
 {
     match owner {
@@ -92,7 +94,8 @@ fn write_stream(
     stream: &StreamInterface,
     selector: u8,
 )
-    requires { reply.old.items ≡ [] }
+    requires empty { reply.old.items ≡ [] }
+    requires stream { interface_in function.now stream.now.number ≡ Some stream.now }
     ensures { reply.new.items ≡ spec.stream_bytes function.now (request_state store.now settings.now) stream.now selector }
 {
     if selector == AS_ACT_ALT_SETTING_CONTROL {
@@ -103,9 +106,10 @@ fn write_stream(
 }
 
 // The valid settings: the number of bitmap bytes, and a bit for each setting by its number.
-#[tactic(auto, unfolding(crate::specs::Requests::valid_bytes), using(crate::proofs::RequestsValidLemmas::two_bytes_alone))]
+#[tactic(auto, unfolding(crate::specs::Requests::valid_bytes))]
 fn write_valid(reply: &mut Reply, function: &Function, store: &Store, stream: &StreamInterface)
-    requires { reply.old.items ≡ [] }
+    requires empty { reply.old.items ≡ [] }
+    requires stream { interface_in function.now stream.now.number ≡ Some stream.now }
     ensures { reply.new.items ≡ spec.valid_bytes function.now store.now stream.now }
 {
     let width = map_bytes(stream);

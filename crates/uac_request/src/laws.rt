@@ -5,7 +5,6 @@ ghost use Rattle.std.specs.Int.{bit_at};
 ghost use Rattle.byteorder.specs.Endian.{little_number};
 ghost use Rattle.uac_alt.specs.AltSettings.{initial_settings, is_running};
 ghost use Rattle.uac_alt.specs.declared.settings.InterfaceSetting.{InterfaceSetting};
-ghost use Rattle.uac_entities.specs.declared.entity.Entity.{Entity};
 ghost use Rattle.uac_entities.specs.declared.stream.StreamInterface.{StreamInterface};
 ghost use Rattle.uac_topology.specs.Function.{FunctionFields, interface_in};
 ghost use Rattle.uac_topology.specs.Topology.{IsSoundFunction};
@@ -25,13 +24,15 @@ pub fn each_interface_starts_with_a_setting()
     ensures { (function : FunctionFields) → AreSettingsOf function (initial_settings function) }
 {}
 
-/// A value comes back from its bytes: one that has a place in one, two or four bytes, and so each that a control holds.
+/// A value comes back from its bytes: one that has a place in one, two or four bytes, and so each that a control of
+/// a sound function holds.
 #[tactic(auto, using(crate::proofs::RequestsByteLemmas::value_back, crate::proofs::RequestElementsValueLemmas::held_comes_back))]
 pub fn values_come_back()
     ensures plain { (width : ℕ) (signed : Bool) (v : ℤ) → (width ≡ 1) ⊎ (width ≡ 2) ⊎ (width ≡ 4) → IsWithin signed width v
         → value_from signed (value_bytes width v) ≡ v }
-    ensures held { (entities : List Entity) (controls : List (Key × ℤ)) (k : Key) (v : ℤ) → IsStoreOf entities controls
-        → value_of controls k ≡ Some v → value_from (is_signed_at entities k) (value_bytes (width_at entities k) v) ≡ v }
+    ensures held { (function : FunctionFields) (controls : List (Key × ℤ)) (k : Key) (v : ℤ) → IsSoundFunction function
+        → IsStoreOf function.entities controls → value_of controls k ≡ Some v
+        → value_from (is_signed_at function.entities k) (value_bytes (width_at function.entities k) v) ≡ v }
 {}
 
 /// The request for the value of a declared control is answered with the value that is held, in the control's bytes, and
@@ -39,7 +40,7 @@ pub fn values_come_back()
 #[tactic(auto, using(crate::proofs::RequestElementsLemmas::element_answered, crate::proofs::RequestElementsLemmas::element_keeps, crate::proofs::RequestsByteLemmas::length_value))]
 pub fn elements_are_answered()
     ensures value { (function : FunctionFields) (controls : List (Key × ℤ)) (settings : List InterfaceSetting) (k : Key) (v : ℤ)
-        → IsSoundFunction function → function.control_interface < 256 → IsStoreOf function.entities controls
+        → IsSoundFunction function → IsStoreOf function.entities controls
         → is_present function.entities k ≡ true → value_of controls k ≡ Some v
         → reply_of function (request_state controls settings) (get_of function k) []
         ≡ with_bytes (value_bytes (width_at function.entities k) v) }
@@ -53,12 +54,12 @@ pub fn elements_are_answered()
 #[tactic(auto, using(crate::proofs::RequestElementsLemmas::set_holds, crate::proofs::RequestElementsLemmas::set_has_width))]
 pub fn sets_hold_the_value()
     ensures held { (function : FunctionFields) (controls : List (Key × ℤ)) (settings : List InterfaceSetting) (k : Key) (v : ℤ)
-        (sent : List ℕ) → IsSoundFunction function → function.control_interface < 256 → IsStoreOf function.entities controls
+        (sent : List ℕ) → IsSoundFunction function → IsStoreOf function.entities controls
         → value_of controls k ≡ Some v → reply_of function (request_state controls settings) (set_of function k) sent ≡ is_done
         → after_request function (request_state controls settings) (set_of function k) sent
         ≡ request_state (with_value controls k (value_from (is_signed_at function.entities k) sent)) settings }
     ensures width { (function : FunctionFields) (controls : List (Key × ℤ)) (settings : List InterfaceSetting) (k : Key) (v : ℤ)
-        (sent : List ℕ) → IsSoundFunction function → function.control_interface < 256 → IsStoreOf function.entities controls
+        (sent : List ℕ) → IsSoundFunction function → IsStoreOf function.entities controls
         → value_of controls k ≡ Some v → reply_of function (request_state controls settings) (set_of function k) sent ≡ is_done
         → length sent ≡ width_at function.entities k }
 {}

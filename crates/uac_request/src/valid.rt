@@ -1,10 +1,12 @@
 // The settings of a streaming interface that are valid.
-ghost use Rattle.std.specs.Prelude.{◌≡◌, ◌==◌, ◌<◌, ◌%◌, ◌^◌, is_some, false};
+ghost use Rattle.std.specs.Prelude.{◌≡◌, ◌==◌, ◌<◌, ◌≤◌, ◌^◌, Some, is_some, false};
 ghost use Rattle.std.specs.Option.{option_map_or};
 ghost use Rattle.uac_alt.specs.AltStreams.{stream_of};
+ghost use Rattle.uac_topology.specs.Function.{interface_in};
 ghost use Rattle.uac_request.specs.Requests as spec;
 
 use uac_store::Store;
+use uac_topology::laws::functions_are_sound;
 use uac_topology::{Function, StreamInterface};
 
 /// Whether a setting of a streaming interface is valid: it is 0, or can run at the rate of its terminal's clock now
@@ -34,33 +36,28 @@ fn rate_at(function: &Function, store: &Store, stream: &StreamInterface) -> Opti
     store.rate(function, terminal.clock)
 }
 
-/// A bit for each valid setting of an interface, by its number, of those that two bytes hold.
+/// A bit for each valid setting of an interface of the function, by its number.
 pub(crate) fn valid_map(function: &Function, store: &Store, stream: &StreamInterface) -> u64
-    ensures { result ≡ spec.valid_sum function.now store.now stream.now stream.now.settings % 65536 }
+    requires { interface_in function.now stream.now.number ≡ Some stream.now }
+    ensures { result ≡ spec.valid_sum function.now store.now stream.now stream.now.settings }
 {
+    functions_are_sound(function);
     let mut bits = 0;
     for setting in stream.settings.as_slice() {
-        bits = (bits + bit_of(function, store, stream, setting.number)) % 65536;
+        bits += bit_of(function, store, stream, setting.number);
     }
     bits
 }
 
-// The bit of a setting, where it is valid and its number has one in two bytes.
+// The bit of a setting, where it is valid.
 fn bit_of(function: &Function, store: &Store, stream: &StreamInterface, number: u8) -> u64
-    ensures value { result ≡ spec.valid_bit function.now store.now stream.now number % 65536 }
-    ensures few { result < 65536 }
+    requires { number < 16 }
+    ensures value { result ≡ spec.valid_bit function.now store.now stream.now number }
+    ensures few { result ≤ 2 ^ number }
 {
-    if !is_valid(function, store, stream, number) {
-        return 0;
+    if is_valid(function, store, stream, number) {
+        1 << number
+    } else {
+        0
     }
-    bit_at(number)
-}
-
-// The bit of a number, where it has one in two bytes.
-#[tactic(auto, using(crate::proofs::RequestsValidLemmas::high_power))]
-fn bit_at(number: u8) -> u64
-    ensures value { result ≡ 2 ^ number % 65536 }
-    ensures few { result < 65536 }
-{
-    if number < 16 { 1 << number } else { 0 }
 }

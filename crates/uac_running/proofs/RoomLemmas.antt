@@ -2,7 +2,6 @@
 use Rattle.std.proofs.Common.{ℕ, zero, suc, ◌+◌, ◌==◌, nat_eq, Bool, true, false, if◌then◌else◌, ℤ, List, [], ◌∷◌, Option, Some, None}
 use Rattle.std.specs.List.{IsDistinct, filter, fold}
 use Rattle.std.proofs.lemmas.Map.Keys.{IsDistinct-tail}
-use Rattle.uac_pcm.specs.declared.tones.Tone.{Tone}
 use Rattle.uac_topology.specs.Function.{FunctionFields}
 use Rattle.uac_units.specs.Hearing.{at_most_u64}
 use Rattle.uac_request.specs.declared.setup.Setup.{Setup}
@@ -17,9 +16,9 @@ use Rattle.uac_streaming.proofs.RoomDeviceLemmas.{AreWithin, HaveSmallNumbers, a
 use Rattle.uac_streaming.proofs.RoomStartLemmas.{controlled_room, deviated_room}
 use Rattle.uac_streaming.proofs.RoomTurnLemmas.{IsRoomy, all_reported_keeps, all_settled_room, in_packets_within, out_packets_within}
 use Rattle.uac_running.specs.declared.jacks.Jack.{Jack}
-use Rattle.uac_running.specs.RunningWorld.{RunningWorld, streaming_of, with_detail, with_deviation, with_samples_on, with_streaming, with_jack_tone, with_track}
-use Rattle.uac_running.specs.Events.{after_all_jacks, domain_microframe, domain_microframes, ends_and_reports, after_jacks, microframe, microframes, next_frame, packets_and_ticks, tick, tick_times}
-use Rattle.uac_running.specs.RunningTransfers.{acts, holds_setting, after_transfer, with_break}
+use Rattle.uac_running.specs.RunningWorld.{RunningWorld, streaming_of, with_deviation, with_streaming}
+use Rattle.uac_running.specs.Events.{after_all_jacks, domain_microframe, domain_microframes, ends_and_reports, after_jacks, microframe, next_frame, packets_and_ticks, tick, tick_times}
+use Rattle.uac_running.specs.RunningTransfers.{acts, holds_setting, after_transfer}
 
 -- ---- ticks
 
@@ -94,23 +93,10 @@ microframe_room about small marks r is =
     let within = ticks_within about marks numbered is.function is.room in
     ends_room about marks (packets_and_ticks marks numbered).world (small _ within.function) within
 
-pub microframes_room : (about : FunctionFields → Type 0) → ((function : FunctionFields) → about function → HaveSmallNumbers function)
-    → (marks : List PhraseMark) (count : ℕ) (r : RunningWorld) → IsRoomy about r.device
-    → IsRoomy about (microframes marks count r).world.device
-unfolding microframes
-microframes_room about small marks zero r is = is
-microframes_room about small marks (suc count) r is =
-    microframes_room about small marks count (microframe marks r).world (microframe_room about small marks r is)
-
 pub one_microframe : (marks : List PhraseMark) (r : RunningWorld) → HaveSmallNumbers r.device.function → HaveRoom r.device
     → HaveRoom (microframe marks r).world.device
 one_microframe marks r small room =
     (microframe_room HaveSmallNumbers (λ function is. is) marks r (record { room = room; function = small })).room
-
-pub many_microframes : (marks : List PhraseMark) (count : ℕ) (r : RunningWorld) → HaveSmallNumbers r.device.function → HaveRoom r.device
-    → HaveRoom (microframes marks count r).world.device
-many_microframes marks count r small room =
-    (microframes_room HaveSmallNumbers (λ function is. is) marks count r (record { room = room; function = small })).room
 
 -- ---- what else changes the device
 
@@ -132,25 +118,3 @@ transferred_room p bytes r room = by (holds_setting p bytes r) r.breaks
     by false None = controlled_room r.device room p bytes
     by false (Some when.Before) = room
     by false (Some when.After) = controlled_room r.device room p bytes
-
--- what doesn't: a tone, the detail, a break, samples and a track
-module _ (r : RunningWorld) (room : HaveRoom r.device) where
-  pub toned_room : (terminal : ℕ) (tone : Tone) → HaveRoom (with_jack_tone terminal tone r).device
-  unfolding with_jack_tone
-  toned_room terminal tone = room
-
-  pub detailed_room : (level : ℕ) → HaveRoom (with_detail level r).device
-  unfolding with_detail
-  detailed_room level = room
-
-  pub broken_room : (after : Bool) → HaveRoom (with_break after r).device
-  unfolding with_break
-  broken_room after = room
-
-  pub sampled_room : (interface : ℕ) (samples : List ℤ) → HaveRoom (with_samples_on interface samples r).device
-  unfolding with_samples_on
-  sampled_room interface samples = room
-
-  pub tracked_room : (interface : ℕ) (tone : Tone) → HaveRoom (with_track interface tone r).device
-  unfolding with_track
-  tracked_room interface tone = room

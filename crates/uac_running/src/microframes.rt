@@ -1,6 +1,5 @@
 // The microframes of a running device: packets, ticks, and the ends of microframes.
 ghost use Rattle.std.specs.Prelude.{◌≡◌, ◌++◌, ℕ, List, ◌+◌, ◌<◌, nat_le, true, false, if◌then◌else◌, [], length, map, slice_index};
-ghost use Rattle.std.specs.List.{All};
 ghost use Rattle.uac_units.specs.Fitting.{IsFitted};
 ghost use Rattle.uac_units.specs.Hearing.{Reading, at_most_u64};
 ghost use Rattle.uac_units.specs.MeterReadings.{readings};
@@ -26,11 +25,10 @@ use crate::printing::write_jacks;
 use crate::running::Running;
 use uac_device::Ticked;
 use uac_edges::{Failed, Sink};
-use uac_entities::StreamInterface;
 use uac_graph::laws::fresh_steps_have_room;
 use uac_script::Mark;
 use uac_streaming::write_found;
-use uac_topology::Function;
+use uac_topology::laws::{functions_are_sound, interfaces_are_numbered};
 use uac_transcript::write_time;
 use uac_units::{Meter, Meters, Rack, Steps, Unit};
 
@@ -60,14 +58,13 @@ impl Running {
             (K.written sink.old) (K.written sink.new) result }
         ensures cause { HasCause (K.faults sink.old) (K.faults sink.new) result }
     {
-        numbers_are_bytes(self.device.function());
         for _passed in 0..count {
             self.microframe(marks, rack, meters, sink)?;
         }
         Ok(())
     }
 
-    /// One microframe. The numbers of interfaces are bytes.
+    /// One microframe.
     #[inline(never)]
     fn microframe<K: Sink>(
         &mut self,
@@ -77,15 +74,15 @@ impl Running {
         sink: &mut K,
     ) -> Result<(), Failed>
         requires rack { IsFitted (λ v x. (⟦<dyn Unit as Unit>⟧ v).kind_of x) rack.now }
-        requires small { All (λ s. s.number < 256) self.old.device.function.streams }
         ensures tells { (r : RunningWorld)
             → RunningStandsBetween self.old (readings (λ v x. (⟦<dyn Meter as Meter>⟧ v).reading_of x) meters.old) r
             → RunningTellsBetween (microframe (map phrase_mark marks.now) r) self.new
             (readings (λ v x. (⟦<dyn Meter as Meter>⟧ v).reading_of x) meters.new)
             (K.written sink.old) (K.written sink.new) result }
         ensures cause { HasCause (K.faults sink.old) (K.faults sink.new) result }
-        ensures function { self.new.device.function ≡ self.old.device.function }
     {
+        functions_are_sound(self.device.function());
+        interfaces_are_numbered();
         self.pass();
         self.write_number(sink)?;
         self.packets_and_ticks(marks, rack, meters, sink)?;
@@ -106,7 +103,6 @@ impl Running {
             (readings (λ v x. (⟦<dyn Meter as Meter>⟧ v).reading_of x) meters.new)
             (K.written sink.old) (K.written sink.new) result }
         ensures cause { HasCause (K.faults sink.old) (K.faults sink.new) result }
-        ensures function { self.new.device.function ≡ self.old.device.function }
     {
         self.packets(marks, sink)?;
         self.domain_microframes(rack, meters, sink)
@@ -117,7 +113,6 @@ impl Running {
         ensures tells { (meters : List Reading) (r : RunningWorld) → RunningStands self.old meters r
             → RunningTells (packets (map phrase_mark marks.now) r) self.new meters (K.written sink.old) (K.written sink.new) result }
         ensures cause { HasCause (K.faults sink.old) (K.faults sink.new) result }
-        ensures function { self.new.device.function ≡ self.old.device.function }
     {
         if !self.device.runs() {
             return Ok(());
@@ -134,7 +129,6 @@ impl Running {
             → RunningTells (ends_and_reports (map phrase_mark marks.now) r) self.new meters (K.written sink.old) (K.written sink.new)
             result }
         ensures cause { HasCause (K.faults sink.old) (K.faults sink.new) result }
-        ensures function { self.new.device.function ≡ self.old.device.function }
     {
         if !self.device.runs() {
             return Ok(());
@@ -149,7 +143,6 @@ impl Running {
             → RunningTells (of_streams (out_packets r.detail (map phrase_mark marks.now)) r) self.new meters
             (K.written sink.old) (K.written sink.new) result }
         ensures cause { HasCause (K.faults sink.old) (K.faults sink.new) result }
-        ensures function { self.new.device.function ≡ self.old.device.function }
     {
         self.streaming
             .out_packets(&mut self.device, self.detail, marks, sink)
@@ -161,7 +154,6 @@ impl Running {
             → RunningTells (of_streams (in_packets r.detail (map phrase_mark marks.now)) r) self.new meters
             (K.written sink.old) (K.written sink.new) result }
         ensures cause { HasCause (K.faults sink.old) (K.faults sink.new) result }
-        ensures function { self.new.device.function ≡ self.old.device.function }
     {
         self.streaming
             .in_packets(&mut self.device, self.detail, marks, sink)
@@ -173,7 +165,6 @@ impl Running {
             → ((interface : ℕ) → ZerosFitIn r.device interface)
             → RunningTells (of_streams (all_settled r.detail) r) self.new meters (K.written sink.old) (K.written sink.new) result }
         ensures cause { HasCause (K.faults sink.old) (K.faults sink.new) result }
-        ensures function { self.new.device.function ≡ self.old.device.function }
     {
         self.streaming.settle(&mut self.device, self.detail, sink)
     }
@@ -184,7 +175,6 @@ impl Running {
             → RunningTells (of_streams (all_reported r.detail (map phrase_mark marks.now)) r) self.new meters
             (K.written sink.old) (K.written sink.new) result }
         ensures cause { HasCause (K.faults sink.old) (K.faults sink.new) result }
-        ensures function { self.new.device.function ≡ self.old.device.function }
     {
         self.streaming
             .reports(&self.device, self.detail, marks, sink)
@@ -221,7 +211,6 @@ impl Running {
             (readings (λ v x. (⟦<dyn Meter as Meter>⟧ v).reading_of x) meters.new)
             (K.written sink.old) (K.written sink.new) result }
         ensures cause { HasCause (K.faults sink.old) (K.faults sink.new) result }
-        ensures function { self.new.device.function ≡ self.old.device.function }
     {
         for index in 0..self.domain_count() {
             self.domain_microframe(self.clock_at(index), rack, meters, sink)?;
@@ -383,20 +372,4 @@ impl Running {
         }
         Ok(())
     }
-}
-
-/// The numbers of interfaces are bytes (USB 2.0, 9.6.5): each is read, so that this is known.
-fn numbers_are_bytes(function: &Function)
-    ensures { All (λ s. s.number < 256) function.now.streams }
-{
-    for stream in function.streams() {
-        let _number = interface_number_of(stream);
-    }
-}
-
-/// bInterfaceNumber of a streaming interface.
-fn interface_number_of(stream: &StreamInterface) -> u8
-    ensures { result ≡ stream.now.number }
-{
-    stream.number
 }

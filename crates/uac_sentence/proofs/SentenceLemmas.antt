@@ -143,6 +143,7 @@ unfolding start
 sentence_of blocks are stand clear =
     let parts = clear_parts start 0 blocks clear in
     record {
+      are_bytes = are;
       spelt = refl;
       stand = stand;
       order = goes_allows letter_of stage.Start blocks parts.goes;
@@ -152,15 +153,19 @@ sentence_of blocks are stand clear =
       values = EachIn-weaker HasNoWrongValue HasValues right_values context.DeviceFront blocks parts.values;
     }
 
-clear_of : (bytes : List ℕ) (blocks : List block.Block) → AreBytes (spellings blocks) → IsSentence bytes blocks → Clear start 0 blocks
+-- the bytes of the blocks of a sentence are bytes
+pub spelt_bytes : (bytes : List ℕ) (blocks : List block.Block) → IsSentence bytes blocks → AreBytes (spellings blocks)
+spelt_bytes bytes blocks sentence = subst AreBytes sentence.spelt sentence.are_bytes
+
+clear_of : (bytes : List ℕ) (blocks : List block.Block) → IsSentence bytes blocks → Clear start 0 blocks
 unfolding start
-clear_of bytes blocks are sentence =
+clear_of bytes blocks sentence =
     parts_clear start 0 blocks (record {
       values = EachIn-weaker HasValues HasNoWrongValue no_wrong_value context.DeviceFront blocks sentence.values;
       end = total_whole 0 blocks sentence.whole_total;
       list = total_list 0 blocks ((listed_entities blocks sentence.stand (allows_goes letter_of stage.Start blocks sentence.order)).1 sentence.list_total);
       goes = allows_goes letter_of stage.Start blocks sentence.order;
-      turn = turn_in blocks (small_numbers blocks are) sentence.in_turn;
+      turn = turn_in blocks (small_numbers blocks (spelt_bytes bytes blocks sentence)) sentence.in_turn;
     })
 
 pub none_sentence : (bytes : List ℕ) → AreBytes bytes → first_fault bytes ≡ None → (blocks : List block.Block) × IsSentence bytes blocks
@@ -174,11 +179,11 @@ none_sentence bytes are e =
     ∙ append-nil (flat_map (λ piece. piece) (chop bytes).pieces) ∙ h.spelt in
     (h.blocks, subst (λ y. IsSentence y h.blocks) (sym whole) (sentence_of h.blocks (subst AreBytes whole are) h.stand h.clear))
 
-pub sentence_none : (bytes : List ℕ) (blocks : List block.Block) → AreBytes bytes → IsSentence bytes blocks → first_fault bytes ≡ None
+pub sentence_none : (bytes : List ℕ) (blocks : List block.Block) → IsSentence bytes blocks → first_fault bytes ≡ None
 unfolding first_fault start
-sentence_none bytes blocks are sentence =
+sentence_none bytes blocks sentence =
     ap (faults_from grammar start 0) sentence.spelt
-    ∙ none_from start 0 blocks sentence.stand (clear_of bytes blocks (subst AreBytes sentence.spelt are) sentence)
+    ∙ none_from start 0 blocks sentence.stand (clear_of bytes blocks sentence)
 
 -- two lists of blocks with the same bytes are the same
 same_blocks : (context : Context) (one other : List block.Block) → EachIn SpellsItself context one → EachIn SpellsItself context other

@@ -1,5 +1,6 @@
 -- The blocks of a sentence are well-formed.
-use Rattle.std.proofs.Common.{◌≡◌, ℕ, ◌+◌, ◌<◌, ◌≤◌, length, get_or, drop, Bool, true, false, ◌&&◌, ◌||◌, not, List, [], ◌∷◌, Option, Some, None, if◌then◌else◌, ◌⊎◌, refl, sym, ap, ◌∙◌, subst, inl, inr}
+use Rattle.std.proofs.Common.{◌≡◌, ℕ, ◌+◌, ◌<◌, ◌≤◌, arith, length, get_or, drop, ◌++◌, append-nil, length-append, Bool, true, false, ◌&&◌, ◌||◌, not, List, [], ◌∷◌, Option, Some, None, if◌then◌else◌, ◌⊎◌, refl, sym, ap, ◌∙◌, subst, inl, inr}
+use Rattle.std.specs.Bool.{OnTrue}
 use Rattle.std.proofs.lemmas.Bool.{true≢false}
 use Rattle.uac_descriptor.specs.declared.context.Context.{Context}
 use Rattle.uac_descriptor.specs.declared.context.Context.TheVariants as context
@@ -8,7 +9,10 @@ use Rattle.uac_descriptor.specs.declared.block.Block as block
 use Rattle.uac_descriptor.specs.declared.block.Block.TheVariants as variant
 use Rattle.uac_descriptor.specs.Classes.{is_audio_association, is_control_interface, is_streaming_interface}
 use Rattle.std.proofs.lemmas.List.{drop_more, drop_all}
+use Rattle.uac_descriptor.specs.BlockParsing.{AreBytes}
 use Rattle.uac_descriptor.specs.Contexts.{EachIn, context_after}
+use Rattle.uac_descriptor.specs.Little.{four}
+use Rattle.uac_descriptor.specs.Spelling.{spelling}
 use Rattle.uac_descriptor.specs.BlockTurns.{BeginsWithControl, InTurn, interface_of, interfaces_in}
 use Rattle.uac_descriptor.specs.WellFormed.{IsWellFormed, AreWellFormed}
 use Rattle.uac_sentence.specs.declared.letters.Letter.{Letter}
@@ -17,23 +21,48 @@ use Rattle.uac_sentence.specs.declared.stages.OrderStage.{OrderStage}
 use Rattle.uac_sentence.specs.declared.stages.OrderStage.TheVariants.{Start, Due, Opening, Before, Announced}
 use Rattle.uac_sentence.specs.Grammar.{is_control, is_audio_interface, is_in_turn, used_after, latest_after}
 use Rattle.uac_sentence.specs.Letter.{letter_of, whole_letter, interface_letter, is_device, has_unknown_subtype, is_ordered_type, type_of}
-use Rattle.uac_sentence.specs.Sentence.{HasSmallNumbers, IsSentence}
+use Rattle.uac_sentence.specs.Sentence.{HasSmallNumbers, IsSentence, SpellsItself, spellings}
 use Rattle.uac_sentence.specs.declared.states.Latest.{Latest}
 use Rattle.uac_sentence.specs.OrderStages.{next_stage, may_end}
 use Rattle.uac_sentence.specs.Values.{HasValues, has_wrong_value}
 use Rattle.uac_sentence.proofs.OrderStagesLemmas.{Goes, allows_goes}
 pub use Rattle.uac_sentence.proofs.SentenceTurnLemmas.{IsTurning}
 use Rattle.uac_sentence.proofs.SentenceTurnLemmas.{turning_step, turning_stops, turning_ends}
-use Rattle.uac_sentence.proofs.ValuesLemmas.{EachIn-weaker, right_values, no_wrong_value}
+use Rattle.uac_sentence.proofs.SentenceLemmas.{bytes_left, bytes_right, piece_of, small_numbers, spelt_bytes}
+use Rattle.uac_sentence.proofs.ValuesLemmas.{right_values, no_wrong_value}
 
--- allowed values are well-formed ones
-keeps : (context : Context) (b : block.Block) → HasValues context b → IsWellFormed context b
-keeps context (variant.Endpoint e) h = h
-keeps context (variant.Mixer m) h = h
-keeps context (variant.Selector s) h = h.0
-keeps context (variant.ClockSelector c) h = h.0
-keeps context (variant.TypeOne t) h = h
-keeps context _ h = tt
+-- allowed values are well-formed ones, where the number of an interface is a byte and the block's length fits one
+pub kept_well : (context : Context) (b : block.Block) → HasSmallNumbers (b ∷ []) → length (spelling b) ≤ 255 → HasValues context b → IsWellFormed context b
+unfolding spelling
+kept_well context (variant.Interface i) small short h = small.0
+kept_well context (variant.Endpoint e) small short h = h
+kept_well context (variant.Mixer m) small short h =
+    (h, omega (arith, short, length-append m.sources (m.channels ∷ four m.locations ++ m.names ∷ (m.mix_bits ++ m.controls ∷ m.name ∷ []))))
+kept_well context (variant.Selector s) small short h = (h.0, omega (arith, short, length-append s.sources (s.controls ∷ s.name ∷ [])))
+kept_well context (variant.ClockSelector c) small short h = (h.0, omega (arith, short, length-append c.sources (c.controls ∷ c.name ∷ [])))
+kept_well context (variant.TypeOne t) small short h = h
+kept_well context _ small short h = tt
+
+pub right_well : (context : Context) (b : block.Block) (wrong : Bool) → wrong ≡ has_wrong_value context b → HasSmallNumbers (b ∷ []) → length (spelling b) ≤ 255
+    → OnTrue (not wrong) (IsWellFormed context b)
+right_well context b true is small short = tt
+right_well context b false is small short = kept_well context b small short (right_values context b (sym is))
+
+-- the length of a block that stands among bytes fits a byte
+short_block : (context : Context) (b : block.Block) → SpellsItself context b → AreBytes (spelling b) → length (spelling b) ≤ 255
+short_block context b stands are =
+    let first : get_or (spelling b) 0 0 < 256 = are 0 in
+    omega (arith, first, (piece_of context b stands).1)
+
+all_well : (context : Context) (blocks : List block.Block) → EachIn SpellsItself context blocks → AreBytes (spellings blocks)
+    → EachIn HasValues context blocks → EachIn IsWellFormed context blocks
+all_well context [] stand are values = tt
+all_well context (b ∷ blocks) (stands, stand) are (value, values) =
+    let here : AreBytes (spelling b) = bytes_left (spelling b) (spellings blocks) are in (
+      kept_well context b (small_numbers (b ∷ []) (λ i. subst (λ (n : ℕ). n < 256) (ap (λ (y : List ℕ). get_or y i 0) (sym (append-nil (spelling b)))) (here i)))
+          (short_block context b stands here) value,
+      all_well (context_after context b) blocks stand (bytes_right (spelling b) (spellings blocks) are) values,
+    )
 
 -- the control interface is still to come
 abbrev is_front : OrderStage → Bool
@@ -127,7 +156,7 @@ begins s (b ∷ blocks) front (t, e, goes) =
 pub sentence_is_well_formed : (bytes : List ℕ) (blocks : List block.Block) → IsSentence bytes blocks → AreWellFormed blocks
 sentence_is_well_formed bytes blocks h =
     record {
-      fields = EachIn-weaker HasValues IsWellFormed keeps context.DeviceFront blocks h.values;
+      fields = all_well context.DeviceFront blocks h.stand (spelt_bytes bytes blocks h) h.values;
       control = begins Start blocks refl (allows_goes letter_of Start blocks h.order);
       in_turn = h.in_turn;
     }
@@ -142,6 +171,10 @@ pub none_left : (P : List block.Block → Type 0) → P [] → (xs : List block.
 none_left P base xs i past = subst P (sym (drop_all i xs past)) base
 
 -- values
+
+pub well_on : (context : Context) (xs : List block.Block) (i : ℕ) (b : block.Block) → i < length xs → b ≡ get_or xs i b → IsWellFormed context b
+    → EachIn IsWellFormed (context_after context b) (drop (i + 1) xs) → EachIn IsWellFormed context (drop i xs)
+well_on context xs i b below is well rest = subst (EachIn IsWellFormed context) (sym (rest_at xs i b below is)) (well, rest)
 
 pub values_on : (context : Context) (xs : List block.Block) (i : ℕ) (b : block.Block) → i < length xs → b ≡ get_or xs i b → has_wrong_value context b ≡ false
     → EachIn HasValues (context_after context b) (drop (i + 1) xs) → EachIn HasValues context (drop i xs)
@@ -254,10 +287,9 @@ turn_ends used latest xs i past t = turning_ends used latest xs (subst (IsTurnin
 
 -- ---- all three
 
-pub well_formed_by : (blocks : List block.Block) → EachIn HasValues context.DeviceFront blocks → BeginsWithControl (interfaces_in blocks)
+pub well_formed_by : (blocks : List block.Block) → EachIn IsWellFormed context.DeviceFront blocks → BeginsWithControl (interfaces_in blocks)
     → InTurn [] (interfaces_in blocks) → AreWellFormed blocks
-well_formed_by blocks values control turn =
-    record { fields = EachIn-weaker HasValues IsWellFormed keeps context.DeviceFront blocks values; control = control; in_turn = turn }
+well_formed_by blocks fields control turn = record { fields = fields; control = control; in_turn = turn }
 
 pub sentence_passes : (bytes : List ℕ) (blocks : List block.Block) → IsSentence bytes blocks
     → EachIn HasValues context.DeviceFront blocks × BeginsWithControl (interfaces_in blocks) × InTurn [] (interfaces_in blocks)

@@ -3,6 +3,7 @@ use Rattle.std.specs.Prelude.{true, false, ◌≡◌, ℕ, ◌<◌, Bool, List, 
 use Rattle.uac_descriptor.specs.declared.context.Context.{Context}
 use Rattle.uac_descriptor.specs.declared.context.Context.TheVariants as context
 use Rattle.uac_descriptor.specs.declared.block.Block as block
+use Rattle.uac_descriptor.specs.BlockParsing.{AreBytes}
 use Rattle.uac_descriptor.specs.Kinds.{as_configuration, as_header}
 use Rattle.uac_descriptor.specs.LayoutRows.{Spells}
 use Rattle.uac_descriptor.specs.Spelling.{spelling}
@@ -67,8 +68,9 @@ abbrev pub HasSmallNumbers : List block.Block → Type 0
 HasSmallNumbers [] = Unit {0}
 HasSmallNumbers (b ∷ blocks) = IsSoOf (interface_of b) (λ i. (i.number < 256) × HasSmallNumbers blocks) (HasSmallNumbers blocks)
 
--- these blocks are what the bytes say, in the standard's order, with the totals and the values that they must have
+-- the numbers are bytes, and these blocks are what they say, in the standard's order, with the totals and the values that they must have
 pub record IsSentence (bytes : List ℕ) (blocks : List block.Block) : Type 0 where
+  pub are_bytes : AreBytes bytes
   pub spelt : bytes ≡ spellings blocks
   pub stand : EachIn SpellsItself context.DeviceFront blocks
   pub order : Allows letter_of input blocks

@@ -1,17 +1,18 @@
 // Whether blocks are well-formed.
-ghost use Rattle.std.specs.Prelude.{◌≡◌, ◌↔◌, ℕ, List, [], ◌∷◌, true};
+ghost use Rattle.std.specs.Prelude.{◌≡◌, ◌↔◌, ℕ, List, [], ◌∷◌, not, true};
 ghost use Rattle.std.specs.Bool.{OnTrue};
 ghost use Rattle.uac_descriptor.specs.Contexts.{EachIn};
 ghost use Rattle.uac_descriptor.specs.BlockTurns.{BeginsWithControl, InTurn, interfaces_in};
-ghost use Rattle.uac_descriptor.specs.WellFormed.{AreWellFormed};
+ghost use Rattle.uac_descriptor.specs.WellFormed.{AreWellFormed, IsWellFormed};
 ghost use Rattle.uac_descriptor.specs.declared.context.Context.TheVariants as context;
 ghost use Rattle.uac_sentence.specs.Sentence.{HasSmallNumbers, IsSentence};
-ghost use Rattle.uac_sentence.specs.Values.{HasValues};
+ghost use Rattle.uac_sentence.specs.Values.{HasValues, has_wrong_value};
 
 use crate::letters::Letter;
 use crate::rules::{is_audio_interface, is_control};
 use crate::turns::{is_in_turn, latest_after, use_number};
 use crate::values::has_wrong_value;
+use uac_descriptor::laws::has_spelling;
 use uac_descriptor::{Block, Context};
 
 /// A test for blocks that no reader gave, as those of tests: it is true only of well-formed blocks. Of a sentence's blocks it
@@ -27,16 +28,26 @@ pub fn are_well_formed(blocks: &[Block]) -> bool
 }
 
 fn have_right_values(blocks: &[Block]) -> bool
-    ensures { (result ≡ true) ↔ EachIn HasValues context.DeviceFront blocks.now }
+    ensures well_formed { OnTrue result (EachIn IsWellFormed context.DeviceFront blocks.now) }
+    ensures exact { (result ≡ true) ↔ EachIn HasValues context.DeviceFront blocks.now }
 {
     let mut context = Context::DeviceFront;
     for block in blocks {
-        if has_wrong_value(context, block) {
+        if !is_well_formed(context, block) {
             return false;
         }
         context = context.after(block);
     }
     true
+}
+
+// Whether a block's values are allowed; that its length and the number of an interface are bytes, its type keeps.
+fn is_well_formed(context: Context, block: &Block) -> bool
+    ensures well_formed { OnTrue result (IsWellFormed context block.now) }
+    ensures exact { result ≡ not (has_wrong_value context block.now) }
+{
+    has_spelling(block);
+    has_flag(block) && !has_wrong_value(context, block)
 }
 
 fn begin_with_control(blocks: &[Block]) -> bool

@@ -1,28 +1,23 @@
--- The lines of a descriptor: what they feed is bytes, so each interface's number is a byte, and the device that the bytes describe
--- starts in its bands.
-use Rattle.std.proofs.Common.{◌≡◌, sym, refl, subst, ℕ, zero, suc, ◌⊎◌, ◌<◌, ◌==◌, Bool, true, false, cond, if◌then◌else◌, List, [], ◌∷◌, ◌++◌, map, Option, None, Some, Result, Ok, Err, inl, inr}
-use Rattle.std.specs.List.{All, cons_option, filter_map}
+-- The lines of a descriptor: what they feed is bytes, so each entity's id is a byte, and the device that the bytes describe starts in its
+-- bands.
+use Rattle.std.proofs.Common.{◌≡◌, sym, refl, subst, ℕ, zero, suc, ◌⊎◌, ◌<◌, true, List, [], ◌∷◌, ◌++◌, map, Option, None, Some, Result, Ok, Err, inl, inr}
+use Rattle.std.specs.List.{All}
 use Rattle.std.specs.Result.{result_ok}
 use Rattle.std.proofs.lemmas.List.Elements.{All-cons, All-map, All-nil}
 use Rattle.hex.specs.Hex.{decode_of}
 use Rattle.hex.proofs.HexLemmas.{decode_of-ok}
-use Rattle.uac_descriptor.specs.Classes.{is_streaming_interface}
 use Rattle.uac_descriptor.specs.BlockParsing.{AreBytes}
 use Rattle.uac_descriptor.specs.Spelling.{spelling}
 use Rattle.uac_descriptor.specs.WellFormed.{AreWellFormed}
 use Rattle.uac_descriptor.specs.declared.block.Block as block
 use Rattle.uac_descriptor.specs.declared.block.Block.TheVariants as row
 use Rattle.uac_sentence.specs.Grammar.{first_fault}
-use Rattle.uac_sentence.specs.Sentence.{HasSmallNumbers, spellings}
+use Rattle.uac_sentence.specs.Sentence.{spellings}
 use Rattle.uac_sentence.specs.declared.faults.GrammarFault.{GrammarFault}
-use Rattle.uac_sentence.proofs.SentenceLemmas.{bytes_right, none_sentence, small_numbers}
+use Rattle.uac_sentence.proofs.SentenceLemmas.{bytes_right, none_sentence, spelt_bytes}
 use Rattle.uac_sentence.proofs.SentenceWellFormedLemmas.{sentence_is_well_formed}
 use Rattle.uac_entities.specs.Entities.{entities_of, entity_of}
-use Rattle.uac_entities.specs.EntitySettings.{declared_setting_at, declared_setting_of, declared_settings}
-use Rattle.uac_entities.specs.EntityInterfaces.{streaming_interface_at, streaming_interface_of}
-use Rattle.uac_entities.specs.declared.settings.DeclaredSetting.{DeclaredSetting}
 use Rattle.uac_entities.specs.declared.entity.Entity.{Entity}
-use Rattle.uac_entities.specs.declared.stream.StreamInterface.{StreamInterface}
 use Rattle.uac_topology_rules.specs.Clusters.{with_own_clusters}
 use Rattle.uac_topology_rules.specs.declared.fault.TopologyFault.{TopologyFault}
 use Rattle.uac_topology.specs.Function.{FunctionFields}
@@ -67,31 +62,6 @@ appended_bytes [] ys front back i = back i
 appended_bytes (x ∷ xs) ys front back zero = front zero
 appended_bytes (x ∷ xs) ys front back (suc i) = appended_bytes xs ys (λ k. front (suc k)) back i
 
--- ---- the numbers of interfaces
-
-module _ (es : List Entity) (whole : List DeclaredSetting) where
-  abbrev IsSmall : StreamInterface → Type 0
-  IsSmall s = s.number < 256
-
-  streams_from : List block.Block → List StreamInterface
-  streams_from blocks = filter_map (streaming_interface_at es whole) (declared_settings blocks)
-
-  small_streams : (blocks : List block.Block) → HasSmallNumbers blocks → All IsSmall (streams_from blocks)
-  unfolding declared_settings declared_setting_at streaming_interface_at streaming_interface_of streams_from
-  small_streams [] small = All-nil IsSmall
-  small_streams (row.Interface i ∷ blocks) (here, rest) = by (is_streaming_interface i) (small_streams blocks rest)
-    where
-      by_setting : (t : Bool) → All IsSmall (streams_from blocks)
-          → All IsSmall (cons_option (if t then Some (streaming_interface_of es whole i.number) else None) (streams_from blocks))
-      by_setting true each = All-cons IsSmall (streaming_interface_of es whole i.number) (streams_from blocks) here each
-      by_setting false each = each
-
-      by : (t : Bool) → All IsSmall (streams_from blocks)
-          → All IsSmall (filter_map (streaming_interface_at es whole) (cons_option (cond t (Some (declared_setting_of i blocks)) None) (declared_settings blocks)))
-      by true each = by_setting (i.setting == 0) each
-      by false each = each
-  small_streams (b ∷ blocks) small = small_streams blocks small
-
 -- ---- the ids of entities
 
 abbrev HasSmallId : Entity → Type 0
@@ -135,12 +105,11 @@ small_ids blocks are =
 -- the function that bytes without a fault describe
 pub record IsDescribed (function : FunctionFields) : Type 0 where
   pub sound : IsSoundFunction function
-  pub small : All (λ s. s.number < 256) function.streams
   pub ids : AreSmall (map (λ e. e.id) function.entities)
 
 pub described : (bytes : List ℕ) → AreBytes bytes → first_fault bytes ≡ None → first_fault_of (blocks_of bytes) ≡ None
     → IsDescribed (function_of (blocks_of bytes))
-unfolding function_of streams_from
+unfolding function_of
 described bytes are whole sound =
     let sentence = none_sentence bytes are whole in
     let blocks : List block.Block = sentence.0 in
@@ -153,10 +122,8 @@ described bytes are whole sound =
         record { entities = refl; domains = refl; streams = refl; control_interface = refl; total = refl },
         subst AreWellFormed (sym same) (sentence_is_well_formed bytes blocks sentence.1),
       );
-      small = small_streams (entities_of read) (declared_settings read) read
-          (subst HasSmallNumbers (sym same) (small_numbers blocks (subst AreBytes sentence.1.spelt are)));
       ids = subst (λ (bs : List block.Block). AreSmall (map (λ e. e.id) (with_own_clusters (entities_of bs)))) (sym same)
-          (small_ids blocks (subst AreBytes sentence.1.spelt are));
+          (small_ids blocks (spelt_bytes bytes blocks sentence.1));
     }
 
 -- ---- lines
@@ -211,6 +178,6 @@ pub describing_keeps : (bytes : List ℕ) (meters : List Reading) (phrase : Phra
 describing_keeps bytes meters =
     describing_is (λ phrase s. KeepsGood s) (λ phrase fault. tt) bytes meters (λ are h. record { good = are; quiet = none_quiet })
     (λ more now are h. record { good = are; quiet = none_quiet }) (λ function is h. record {
-      good = (runs_start_in_band bytes function meters is.sound is.small, runs_start_sound bytes function meters is.sound);
+      good = (runs_start_in_band bytes function meters is.sound, runs_start_sound bytes function meters is.sound);
       quiet = one_more (ready_line function) [] (record { no_under = λ k same. cc; near = λ k level target same. absurd (cc) }) none_quiet;
     })

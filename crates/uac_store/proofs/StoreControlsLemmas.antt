@@ -1,7 +1,7 @@
 -- The controls at the start are exactly those that the entities have, each with a value that it takes.
-use Rattle.std.proofs.Common.{◌≡◌, ℕ, suc, ◌/◌, ◌%◌, ◌==◌, ◌&&◌, ◌≤◌, nat_lt, nat_le, nat_eq, ℤ, pos, negsuc, List, [], ◌∷◌, map, length, Option, None, Some, is_some, if◌then◌else◌, Bool, true, false, refl, ap, sym, subst, ◌∙◌, arith, rules}
+use Rattle.std.proofs.Common.{◌≡◌, ℕ, ◌/◌, ◌%◌, ◌==◌, ◌&&◌, ◌≤◌, nat_lt, nat_le, nat_eq, ℤ, pos, negsuc, List, [], ◌∷◌, map, length, Option, None, Some, is_some, if◌then◌else◌, Bool, true, false, refl, ap, sym, subst, ◌∙◌, arith, rules}
 use Rattle.std.specs.Option.{option_or, option_and_then, option_map_or}
-use Rattle.std.specs.List.{flat_map, All, AllByRecursion, IsDistinct}
+use Rattle.std.specs.List.{flat_map, AllByRecursion, IsDistinct}
 use Rattle.std.proofs.lemmas.Bool.{and_parts, eqb-true, eqb-false, ltb-true, ltb-false, le-leb, leb-true, leb-false}
 use Rattle.uac_clock.specs.Nominal.{is_listed}
 use Rattle.uac_gain.specs.Gain.{gain_of}
@@ -10,12 +10,13 @@ use Rattle.uac_entities.specs.declared.entity.EntityKind.{EntityKind}
 use Rattle.uac_entities.specs.declared.entity.EntityKind.TheVariants as kind
 use Rattle.uac_entities.specs.declared.entity.Entity.{Entity}
 use Rattle.uac_topology_rules.proofs.LinksLemmas.{option_or-none}
-use Rattle.uac_topology.specs.FunctionKept.{has_pins, HavePins}
+use Rattle.uac_topology.specs.FunctionKept.{has_pins, HasPins, HavePins}
 use Rattle.uac_store.specs.declared.keys.Key.{Key}
 use Rattle.uac_store.specs.Keyed.{value_of}
-use Rattle.uac_store.specs.ControlTable.{choices, is_one_to, selectors_of, start_by, takes_by}
+use Rattle.uac_store.specs.ControlTable.{selectors_of, start_by, takes_by}
 use Rattle.uac_store.specs.StoreControls.{start_of, start_at, count_of, pins_of, node_start, channel_within, controls_of, initial_controls, has_on, has_control, takes, takes_on, IsStoreOf}
 use Rattle.uac_store.proofs.ControlTableLemmas.{at_each}
+use Rattle.uac_store.proofs.StoreControlsIdLemmas.{all_named}
 use Rattle.uac_store.proofs.KeyedStartLemmas.{value_of-append, controls_miss_channel, controls_miss_entity, selectors_miss, selectors_have, entities_miss}
 
 -- what one entity gives a key
@@ -83,22 +84,6 @@ found_where_there all k (Some e) = from (has_on all k e) where
   from true = refl
   from false = refl
 
--- what holds of each entity holds of the one with an id
-named_has : (P : Entity → Type 0) (all : List Entity) (id : ℕ) (e : Entity) → All P all → entity_by_id all id ≡ Some e → P e
-unfolding entity_by_id
-named_has P [] id e each is = cc
-named_has P (x ∷ xs) id e each is = from (x.id == id) is (λ h. named_has P xs id e (λ k d h. each (suc k) d (omega (arith, h))) h) where
-  from : (b : Bool) → (if b then Some x else entity_by_id xs id) ≡ Some e → (entity_by_id xs id ≡ Some e → P e) → P e
-  from true here rest = let i : x ≡ e = cc in subst P i (each 0 x (omega arith))
-  from false other rest = rest other
-
--- the first pin is there
-first_pin : (pins : ℕ) → 1 ≤ pins → is_one_to (choices pins) (pos 1) ≡ true
-first_pin pins some = from (nat_lt pins 256) where
-  from : (b : Bool) → is_one_to (if b then pins else 255) (pos 1) ≡ true
-  from true = le-leb 1 pins some
-  from false = refl
-
 -- what an entity's control has at the start is a value that it takes: its first control, its second, and either
 start_first : (k : EntityKind) (pins : List ℕ) (outputs sources attributes channel : ℕ) → (has_pins k ≡ true → 1 ≤ sources) → nat_le 1 (selectors_of k) ≡ true
     → takes_by k sources attributes 1 (start_by k 1 (node_start pins outputs channel)) ≡ true
@@ -107,7 +92,7 @@ start_first kind.ClockSource pins outputs sources attributes channel pin there =
   from : (b : Bool) → (if b then 48000 == 48000 else is_listed 48000) ≡ true
   from true = refl
   from false = refl
-start_first kind.ClockSelector pins outputs sources attributes channel pin there = first_pin sources (pin refl)
+start_first kind.ClockSelector pins outputs sources attributes channel pin there = le-leb 1 sources (pin refl)
 start_first kind.ClockMultiplier pins outputs sources attributes channel pin there = refl
 start_first kind.InputTerminal pins outputs sources attributes channel pin there = cc
 start_first kind.OutputTerminal pins outputs sources attributes channel pin there = cc
@@ -116,7 +101,7 @@ start_first kind.Mixer pins outputs sources attributes channel pin there =
       from : (b : Bool) → is_some (gain_of (if b then pos 0 else negsuc 32767)) ≡ true
       from true = refl
       from false = refl
-start_first kind.Selector pins outputs sources attributes channel pin there = first_pin sources (pin refl)
+start_first kind.Selector pins outputs sources attributes channel pin there = le-leb 1 sources (pin refl)
 start_first kind.Feature pins outputs sources attributes channel pin there = refl
 start_first kind.Effect pins outputs sources attributes channel pin there = refl
 
@@ -158,5 +143,5 @@ initial_is_store all distinct have = record {
         let i : start_of all e k.selector k.channel ≡ v = cc in
         subst (λ w. takes_on k.selector w e ≡ true) i
         (start_taken e.kind (pins_of all e) e.cluster.channels (length e.sources) e.attributes k.selector k.channel (nat_lt k.channel (count_of all e))
-        (named_has (λ x. has_pins x.kind ≡ true → 1 ≤ length x.sources) all k.entity e have is) there)
+        (all_named HasPins all k.entity e have is).0 there)
     given false other starts = cc

@@ -125,10 +125,6 @@ start_as control.Enable node = pos 0
 abbrev pub start_by : EntityKind → ℕ → ℤ → ℤ
 start_by k selector node = option_map_or (λ c. start_as c node) (control_of k selector) (pos 0)
 
--- the pins that a control of one byte can choose
-abbrev pub choices : ℕ → ℕ
-choices pins = if nat_lt pins 256 then pins else 255
-
 -- a whole number from 1 to this
 abbrev pub is_one_to : ℕ → ℤ → Bool
 is_one_to most (pos n) = nat_lt 0 n && nat_le n most
@@ -148,12 +144,12 @@ is_frequency attributes _ = false
 abbrev pub takes_as : Control → ℕ → ℕ → ℤ → Bool
 takes_as control.SamplingFrequency pins attributes v = is_frequency attributes v
 takes_as control.ClockValid pins attributes v = false
-takes_as control.ClockSelector pins attributes v = is_one_to (choices pins) v
+takes_as control.ClockSelector pins attributes v = is_one_to pins v
 takes_as control.Numerator pins attributes v = is_one_to 8 v
 takes_as control.Denominator pins attributes v = is_one_to 8 v
 takes_as control.Connector pins attributes v = false
 takes_as control.MixerNode pins attributes v = is_some (gain_of v)
-takes_as control.Selector pins attributes v = is_one_to (choices pins) v
+takes_as control.Selector pins attributes v = is_one_to pins v
 takes_as control.Mute pins attributes v = is_switch v
 takes_as control.Volume pins attributes v = is_some (gain_of v)
 takes_as control.Enable pins attributes v = is_switch v
@@ -182,12 +178,12 @@ volumes = record { min = negsuc 24575; max = negsuc 8447; res = pos 256 } ∷ re
 abbrev pub ranges_as : Control → ℕ → ℕ → Option (List Range)
 ranges_as control.SamplingFrequency pins attributes = Some (map alone (frequencies attributes))
 ranges_as control.ClockValid pins attributes = None
-ranges_as control.ClockSelector pins attributes = one_range (pos 1) (pos (choices pins)) (pos 1)
+ranges_as control.ClockSelector pins attributes = one_range (pos 1) (pos pins) (pos 1)
 ranges_as control.Numerator pins attributes = one_range (pos 1) (pos 8) (pos 1)
 ranges_as control.Denominator pins attributes = one_range (pos 1) (pos 8) (pos 1)
 ranges_as control.Connector pins attributes = None
 ranges_as control.MixerNode pins attributes = Some volumes
-ranges_as control.Selector pins attributes = one_range (pos 1) (pos (choices pins)) (pos 1)
+ranges_as control.Selector pins attributes = one_range (pos 1) (pos pins) (pos 1)
 ranges_as control.Mute pins attributes = None
 ranges_as control.Volume pins attributes = Some volumes
 ranges_as control.Enable pins attributes = None

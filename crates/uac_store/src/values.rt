@@ -53,7 +53,7 @@ pub(crate) struct Change {
 ///
 /// None comes exactly where there is no control with this key that keeps a value, or it has no ranges, as mutes and
 /// enables have none. It takes no memory.
-#[tactic(auto, unfolding(crate::specs::StoreValues::ranges_of), using(crate::proofs::StoreControlsIdLemmas::small_named, crate::proofs::StoreControlsSoundLemmas::keyed))]
+#[tactic(auto, unfolding(crate::specs::StoreValues::ranges_of), using(crate::proofs::StoreControlsIdLemmas::few_pins, crate::proofs::StoreControlsIdLemmas::small_named, crate::proofs::StoreControlsSoundLemmas::keyed))]
 pub fn ranges(function: &Function, key: Key) -> Option<Ranges>
     ensures { option_map (λ ranges. ranges.items) result ≡ spec.ranges_of function.now.entities key }
 {
@@ -79,27 +79,18 @@ fn has_on(function: &Function, entity: &Entity, key: Key) -> bool
 
 // The subranges of a control that an entity has.
 fn ranges_on(entity: &Entity, selector: u8) -> Option<Ranges>
+    requires { length entity.now.sources ≤ 248 }
     ensures { option_map (λ ranges. ranges.items) result
         ≡ table.ranges_by entity.now.kind (length entity.now.sources) entity.now.attributes selector }
 {
     match control_of(entity.kind, selector)? {
         Control::SamplingFrequency => Some(frequencies(entity.attributes)),
         Control::ClockSelector | Control::Selector => {
-            Some(one_range(1, i32::from(choices(entity.sources.as_slice())), 1))
+            Some(one_range(1, entity.sources.as_slice().len() as i32, 1))
         }
         Control::Numerator | Control::Denominator => Some(one_range(1, i32::from(MOST_TIMES), 1)),
         Control::MixerNode | Control::Volume => Some(volumes()),
         Control::Mute | Control::Enable | Control::ClockValid | Control::Connector => None,
-    }
-}
-
-// The last pin, counted from 1, that a control of one byte can choose.
-fn choices(sources: &[u8]) -> u8
-    ensures { result ≡ table.choices (length sources.now) }
-{
-    match u8::try_from(sources.len()) {
-        Ok(pins) => pins,
-        Err(_) => 255,
     }
 }
 
@@ -159,11 +150,12 @@ fn each_alone(rates: &[u32]) -> Ranges
 
 /// Whether a change gives its control a value that is legal: one that the control takes, and where it is a clock
 /// entity's, one under which every clock entity has a rate. It takes no memory.
-#[tactic(auto, unfolding(crate::specs::StoreValues::is_legal, crate::specs::StoreControls::takes))]
+#[tactic(auto, unfolding(crate::specs::StoreValues::is_legal, crate::specs::StoreControls::takes), using(crate::proofs::StoreControlsIdLemmas::few_pins))]
 pub(crate) fn is_legal(function: &Function, store: &Store, change: Change) -> bool
     requires { IsSome (value_of store.now change.key) }
     ensures { result ≡ spec.is_legal function.now.entities store.now change.key change.value }
 {
+    functions_are_sound(function);
     match function.entity(change.key.entity) {
         Some(entity) => {
             takes(entity, change.key.selector, change.value)
@@ -176,6 +168,7 @@ pub(crate) fn is_legal(function: &Function, store: &Store, change: Change) -> bo
 // Whether an entity's control takes a value (profile).
 #[tactic(auto, unfolding(crate::specs::StoreControls::takes_on))]
 fn takes(entity: &Entity, selector: u8, value: i32) -> bool
+    requires { length entity.now.sources ≤ 248 }
     ensures { result ≡ controls.takes_on selector value entity.now }
 {
     match control_of(entity.kind, selector) {
@@ -185,12 +178,13 @@ fn takes(entity: &Entity, selector: u8, value: i32) -> bool
 }
 
 fn takes_as(control: Control, entity: &Entity, value: i32) -> bool
+    requires { length entity.now.sources ≤ 248 }
     ensures { result ≡ table.takes_as control (length entity.now.sources) entity.now.attributes value }
 {
     match control {
         Control::SamplingFrequency => is_frequency(entity.attributes, value),
         Control::ClockSelector | Control::Selector => {
-            is_one_to(choices(entity.sources.as_slice()), value)
+            is_one_to(entity.sources.as_slice().len() as u8, value)
         }
         Control::Numerator | Control::Denominator => is_one_to(MOST_TIMES, value),
         Control::MixerNode | Control::Volume => is_volume(value),

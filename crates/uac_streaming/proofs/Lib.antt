@@ -9,6 +9,7 @@ pub mod StreamingWorldLineLemmas
 pub mod StreamingWorldLemmas
 pub mod StreamingWorldQuietLemmas
 pub mod FoundRingsLemmas
+pub mod AmongLemmas
 pub mod RoomLemmas
 pub mod RoomDeviceLemmas
 pub mod RoomStartLemmas

@@ -1,9 +1,9 @@
 -- What the events of a microframe leave of the room in a device's rings.
-use Rattle.std.proofs.Common.{◌≡◌, ◌∙◌, sym, refl, ap, subst, arith, ℕ, zero, suc, ◌+◌, ◌*◌, ◌%◌, ◌<◌, ◌≤◌, ◌⊎◌, ◌==◌, nat_eq, Bool, true, false, if◌then◌else◌, cond, ℤ, List, [], ◌∷◌, map, Option, Some, None, is_some, IfSome, inl, inr}
-use Rattle.std.specs.List.{All, AllByRecursion, IsDistinct, filter, find, range_with_len}
+use Rattle.std.proofs.Common.{◌≡◌, ◌∙◌, sym, refl, ap, subst, arith, ℕ, suc, ◌*◌, ◌%◌, ◌<◌, ◌≤◌, ◌⊎◌, ◌==◌, nat_eq, Bool, true, false, if◌then◌else◌, ℤ, List, [], ◌∷◌, map, Option, Some, None, IfSome, inl, inr}
+use Rattle.std.specs.List.{All, IsDistinct, find}
 use Rattle.std.specs.Option.{option_map, option_map_or}
-use Rattle.std.proofs.lemmas.Bool.{cases_eq, eqb-false, eqb-true, true≢false}
-use Rattle.std.proofs.lemmas.List.Elements.{All-head, All-map, All-tail, All-weaker}
+use Rattle.std.proofs.lemmas.Bool.{eqb-false, eqb-true, true≢false}
+use Rattle.std.proofs.lemmas.List.Elements.{All-map, All-weaker}
 use Rattle.std.proofs.lemmas.Map.Keys.{IsDistinct-head}
 use Rattle.uac_entities.specs.declared.stream.StreamInterface.{StreamInterface}
 use Rattle.uac_topology.specs.Function.{FunctionFields}
@@ -15,6 +15,7 @@ use Rattle.uac_device.specs.DeviceWorld.{DeviceWorld, Domain, ZerosFitIn, after_
 use Rattle.uac_device.specs.DeviceKept.{IsDeviationInRange}
 use Rattle.uac_streaming.specs.Room.{HasRoom, HaveRoom}
 use Rattle.uac_streaming.specs.StreamingWorld.{numbers}
+use Rattle.uac_streaming.proofs.AmongLemmas.{Among, among_cases, among_first, among_none, among_rest, apart_from, known_among}
 use Rattle.uac_streaming.proofs.RoomLemmas.{IsWithin, next_few, opened, packet_came, packet_keeps, settled_again, settled_room, tick_came, tick_keeps, ticks_came, zeros_fit}
 
 -- ---- streams that change
@@ -74,32 +75,6 @@ off_any : (function : FunctionFields) (clock interface : ℕ) → find (λ s. s.
     → on function clock interface ≡ false
 off_any function clock interface none =
     ap (λ (o : Option StreamInterface). option_map_or (λ s. (entity function.entities s.terminal).clock == clock) o false) none
-
--- a number stands in a list
-pub Among : ℕ → List ℕ → Type 0
-Among n [] = ⊥
-Among n (m ∷ ms) = (m ≡ n) ⊎ Among n ms
-
-pub among_first : (n : ℕ) (ns : List ℕ) → Among n (n ∷ ns)
-unfolding Among
-among_first n ns = inl refl
-
-pub among_rest : (n m : ℕ) (ns : List ℕ) → Among n ns → Among n (m ∷ ns)
-unfolding Among
-among_rest n m ns there = inr there
-
-pub among_none : (n : ℕ) → Among n [] → ⊥
-unfolding Among
-among_none n there = there
-
-pub among_cases : (n m : ℕ) (ns : List ℕ) → Among n (m ∷ ns) → (m ≡ n) ⊎ Among n ns
-unfolding Among
-among_cases n m ns there = there
-
-apart_from : (n m : ℕ) (ns : List ℕ) → AllByRecursion (λ y. nat_eq n y ≡ false) ns → Among m ns → nat_eq n m ≡ false
-unfolding Among
-apart_from n m [] all there = absurd there
-apart_from n m (y ∷ ns) all there = elim there [ inl same ↦ subst (λ (z : ℕ). nat_eq n z ≡ false) same all.0 | inr rest ↦ apart_from n m ns all.1 rest ]
 
 same_eq : (n : ℕ) → nat_eq n n ≡ true
 same_eq n = grind arith
@@ -313,42 +288,6 @@ pub record AreEnding (about : FunctionFields → Type 0) (loses : ℕ → Bool) 
 -- the numbers of interfaces are bytes (USB 2.0, 9.6.5)
 abbrev pub HaveSmallNumbers : FunctionFields → Type 0
 HaveSmallNumbers function = All (λ s. s.number < 256) function.streams
-
--- the interfaces that are known are among the numbers
-found_below : (k : ℕ) (ss : List StreamInterface) (s : StreamInterface) → All (λ t. t.number < 256) ss
-    → find (λ t. t.number == k) ss ≡ Some s → k < 256
-found_below k [] s all e = absurd (cc)
-found_below k (t ∷ ts) s all e = by (t.number == k) refl e (found_below k ts s (All-tail (λ t. t.number < 256) t ts all))
-  where
-    by : (b : Bool) → (t.number == k) ≡ b → cond b (Some t) (find (λ t. t.number == k) ts) ≡ Some s
-        → (find (λ t. t.number == k) ts ≡ Some s → k < 256) → k < 256
-    by true same _ _ = subst (λ (n : ℕ). n < 256) (eqb-true t.number k same) (All-head (λ t. t.number < 256) t ts all)
-    by false _ later rest = rest later
-
-among_range : (k from count : ℕ) → from ≤ k → k < from + count → Among k (range_with_len from count)
-unfolding Among
-among_range k from zero low high = absurd (omega arith)
-among_range k from (suc count) low high = elim (cases_eq from k) [ inl same ↦ inl same | inr other ↦ inr (among_range k (from + 1) count (omega (arith, other)) (omega arith)) ]
-
-among_one : (test : ℕ → Bool) (k n : ℕ) (ns : List ℕ) (b : Bool) → test n ≡ b → test k ≡ true → (n ≡ k) ⊎ Among k ns
-    → Among k (cond b (n ∷ ns) ns)
-unfolding Among
-among_one test k n ns true _ passes there = there
-among_one test k n ns false fails passes (inl same) = absurd (true≢false (sym passes ∙ ap test (sym same) ∙ fails))
-among_one test k n ns false fails passes (inr later) = later
-
-among_kept : (test : ℕ → Bool) (k : ℕ) (ns : List ℕ) → test k ≡ true → Among k ns → Among k (filter test ns)
-unfolding Among
-among_kept test k [] passes there = absurd there
-among_kept test k (n ∷ ns) passes there =
-    among_one test k n (filter test ns) (test n) refl passes (elim there [ inl same ↦ inl same | inr later ↦ inr (among_kept test k ns passes later) ])
-
-known_among : (function : FunctionFields) (k : ℕ) (s : StreamInterface) → HaveSmallNumbers function
-    → find (λ t. t.number == k) function.streams ≡ Some s → Among k (numbers function)
-unfolding numbers
-known_among function k s numbered known =
-    among_kept (λ n. is_some (find (λ t. t.number == n) function.streams)) k (range_with_len 0 256) (ap is_some known)
-    (among_range k 0 256 (omega arith) (found_below k function.streams s numbered known))
 
 -- as the ends begin
 pub all_ending : (about : FunctionFields → Type 0) (loses : ℕ → Bool) (clock : ℕ) (w : DeviceWorld) → HaveSmallNumbers w.function

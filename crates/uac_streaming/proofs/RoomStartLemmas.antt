@@ -1,10 +1,10 @@
 -- Where there is room in a device's rings: at the start, after deviations and after control requests.
-use Rattle.std.proofs.Common.{◌≡◌, sym, refl, subst, arith, rules, ℕ, zero, suc, ◌-◌, ◌^◌, ◌≤◌, ◌==◌, ◌&&◌, ◌||◌, not, nat_eq, nat_le, Bool, true, false, if◌then◌else◌, cond, ℤ, List, [], ◌∷◌, get_or, Option, Some, None, inl, inr}
+use Rattle.std.proofs.Common.{◌≡◌, sym, refl, subst, arith, rules, ℕ, ◌-◌, ◌==◌, ◌&&◌, not, nat_eq, Bool, true, false, if◌then◌else◌, cond, ℤ, List, [], ◌∷◌, get_or, Option, Some, None}
 use Rattle.std.specs.List.{AllByRecursion, IsDistinct, filter, find}
 use Rattle.std.specs.Option.{option_and_then}
 use Rattle.std.proofs.lemmas.Int.{ints}
 use Rattle.std.proofs.lemmas.List.Elements.{All-map}
-use Rattle.std.proofs.lemmas.Map.Keys.{IsDistinct-cons, IsDistinct-head, IsDistinct-tail}
+use Rattle.std.proofs.lemmas.Map.Keys.{IsDistinct-cons}
 use Rattle.std.proofs.lemmas.Option.{cond_some, option_and_then_some}
 use Rattle.uac_topology_rules.specs.Domains.{domains_of, each_once}
 use Rattle.uac_topology.specs.Function.{FunctionFields}
@@ -21,6 +21,7 @@ use Rattle.uac_device.specs.DeviceWorld.{DeviceWorld, resting_domain, after_cont
 use Rattle.uac_device.specs.DeviceKept.{IsDeviationInRange}
 use Rattle.uac_device.proofs.AltStreamsLemmas.{interval}
 use Rattle.uac_streaming.specs.Room.{HasRoom, HaveRoom}
+use Rattle.uac_streaming.proofs.AmongLemmas.{kept_distinct}
 use Rattle.uac_streaming.proofs.RoomDeviceLemmas.{deviations_kept}
 
 -- ---- a clock that is off
@@ -35,25 +36,6 @@ deviated_room clock ppm w range room = record {
 }
 
 -- ---- the start
-
-kept_false : (test : ℕ → Bool) (n : ℕ) (ns : List ℕ) → AllByRecursion (λ y. nat_eq n y ≡ false) ns
-    → AllByRecursion (λ y. nat_eq n y ≡ false) (filter test ns)
-kept_false test n [] all = tt
-kept_false test n (m ∷ ms) all = by (test m) (kept_false test n ms all.1)
-  where
-    by : (b : Bool) → AllByRecursion (λ y. nat_eq n y ≡ false) (filter test ms)
-        → AllByRecursion (λ y. nat_eq n y ≡ false) (cond b (m ∷ filter test ms) (filter test ms))
-    by true rest = (all.0, rest)
-    by false rest = rest
-
-kept_distinct : (test : ℕ → Bool) (ns : List ℕ) → IsDistinct nat_eq ns → IsDistinct nat_eq (filter test ns)
-kept_distinct test [] once = once
-kept_distinct test (n ∷ ns) once =
-    by (test n) (kept_distinct test ns (IsDistinct-tail nat_eq n ns once))
-  where
-    by : (b : Bool) → IsDistinct nat_eq (filter test ns) → IsDistinct nat_eq (cond b (n ∷ filter test ns) (filter test ns))
-    by true rest = IsDistinct-cons nat_eq n (filter test ns) (kept_false test n ns (IsDistinct-head nat_eq n ns once)) rest
-    by false rest = rest
 
 other_number : (m n : ℕ) → (m == n) ≡ false → nat_eq n m ≡ false
 other_number m n other = grind arith

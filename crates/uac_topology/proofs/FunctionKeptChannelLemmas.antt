@@ -1,8 +1,8 @@
 -- What is no clock puts out 1 to 32 channels.
 use Rattle.std.proofs.Common.{◌≡◌, ◌∙◌, sym, ap, subst, refl, arith, ℕ, zero, suc, ◌<◌, ◌≤◌, ◌==◌, ◌&&◌, ◌||◌, Bool, true, false, nat_lt, if◌then◌else◌, List, [], ◌∷◌, Option, Some, None, length, get_or, map, slice_get, count_ones}
-use Rattle.std.specs.List.{All, list_any}
+use Rattle.std.specs.List.{list_any}
 use Rattle.std.specs.Option.{option_map, option_map_or, is_none}
-use Rattle.std.proofs.lemmas.Bool.{or_parts, ltb-false, eqb-false}
+use Rattle.std.proofs.lemmas.Bool.{or_parts, ltb-false}
 use Rattle.uac_walk.specs.Walk.{links, has_walk}
 use Rattle.uac_walk.proofs.WalkLemmas.{none_at}
 use Rattle.uac_descriptor.specs.declared.context.Context.TheVariants as context
@@ -13,8 +13,8 @@ use Rattle.uac_entities.specs.declared.entity.EntityKind.{EntityKind}
 use Rattle.uac_entities.specs.declared.entity.EntityKind.TheVariants as kind
 use Rattle.uac_topology_rules.specs.Clusters.{cluster_of, cluster_step, with_own_clusters, takes_over}
 use Rattle.uac_topology_rules.specs.Links.{is_clock, signal_links, signal_sources}
-use Rattle.uac_topology_rules.specs.Rules.{breaks_u3, breaks_u4, breaks_u6, breaks_u8, has_own_cluster, is_output, is_silent}
-use Rattle.uac_topology_rules.specs.Table.{at, first_index_of, kind_of, nothing, index_of, with_cluster}
+use Rattle.uac_topology_rules.specs.Rules.{breaks_u3, breaks_u4, breaks_u6, breaks_u8, has_own_cluster, is_silent}
+use Rattle.uac_topology_rules.specs.Table.{at, first_index_of, kind_of, nothing, index_of}
 use Rattle.uac_topology_rules.proofs.ClustersLemmas.{cluster_is}
 use Rattle.uac_topology_rules.proofs.LinksLemmas.{signal_links-at}
 use Rattle.uac_topology_rules.proofs.TableIdLemmas.{found_is}
@@ -133,7 +133,7 @@ module _ (es : List Entity) (h : KeepsRules es) (have : HavePins es) where
           → IsWidth (cluster_of es k).channels
       by_takes true e shorter =
           subst (λ (c : Cluster). IsWidth c.channels) (sym (taken_over e ∙ ap (λ ls. option_map_or (cluster_of es) (slice_get ls 0) no_cluster) (sources_at k below signal)))
-          (first (at es k).sources (have k nothing below (taker (at es k).kind e)) here there shorter)
+          (first (at es k).sources ((have k nothing below).0 (taker (at es k).kind e)) here there shorter)
       by_takes false e shorter = own_channels k below signal e
 
   clustered_channels : HaveChannels (with_own_clusters es)

@@ -1,12 +1,13 @@
--- The interfaces of a function have different numbers, and settings are numbered from 0.
-use Rattle.std.proofs.Common.{◌≡◌, ◌≢◌, ◌∙◌, sym, ap, subst, refl, arith, ℕ, zero, suc, ◌+◌, ◌<◌, ◌==◌, ◌||◌, ◌⊎◌, not, Bool, true, false, cond, if◌then◌else◌, nat_eq, List, [], ◌∷◌, Option, Some, None, length, get_or, map, slice_get, inl, inr, IsTrue, eqb-true, eq-eqb, ne_eqb, eqb}
+-- The interfaces of a function have different numbers, which are bytes, and their few settings are numbered from 0.
+use Rattle.std.proofs.Common.{◌≡◌, ◌≢◌, ◌∙◌, sym, ap, subst, refl, arith, ℕ, ◌+◌, ◌<◌, ◌≤◌, ◌==◌, ◌||◌, ◌⊎◌, not, Bool, true, false, cond, if◌then◌else◌, nat_eq, List, [], ◌∷◌, Some, None, length, get_or, map, slice_get, inl, inr, IsTrue, eqb-true, ne_eqb}
 use Rattle.std.specs.Prelude.{unwrap_or}
 use Rattle.std.specs.List.{All, AllByRecursion, IsDistinct, filter_map, cons_option, range_with_len}
-use Rattle.std.proofs.lemmas.Bool.{cases_Bool, cases_eq, eqb-false, true≢false}
+use Rattle.std.proofs.lemmas.Bool.{eqb-false, true≢false}
 use Rattle.std.proofs.lemmas.Map.Keys.{IsDistinct-cons}
 use Rattle.uac_walk.proofs.CountLemmas.{IsDistinct-from_times}
 use Rattle.uac_descriptor.specs.Classes.{is_control_interface, is_streaming_interface}
-use Rattle.uac_descriptor.specs.BlockTurns.{is_of_function, Begins, Continues, InTurn, interface_of, interfaces_in, BeginsWithControl}
+use Rattle.uac_descriptor.specs.BlockTurns.{is_of_function, Begins, Continues, InTurn, interfaces_in, BeginsWithControl}
+use Rattle.uac_descriptor.specs.declared.context.Context.TheVariants as context
 use Rattle.uac_descriptor.specs.declared.standard.Interface.{Interface}
 use Rattle.uac_descriptor.specs.declared.block.Block as block
 use Rattle.uac_descriptor.specs.declared.block.Block.TheVariants as row
@@ -20,7 +21,9 @@ use Rattle.uac_entities.specs.declared.stream.StreamInterface.{StreamInterface}
 use Rattle.uac_topology.specs.Function.{FunctionFields}
 use Rattle.uac_topology.specs.FunctionKept.{AreNumbered}
 use Rattle.uac_topology.specs.Topology.{IsSoundFunction, control_number, first_given}
+use Rattle.uac_topology.proofs.FunctionKeptByteLemmas.{few_settings, small_control, small_streams}
 use Rattle.uac_topology.proofs.FunctionKeptRangeLemmas.{each_has_its_settings, no_both}
+use Rattle.uac_topology.proofs.TopologyRuleLemmas.{streams_within}
 
 -- ---- an interface of the function among earlier ones has the number
 
@@ -205,6 +208,9 @@ are_numbered function sound =
           subst (λ (xs : List StreamInterface). IsDistinct nat_eq (function.control_interface ∷ numbers xs)) (sym ss)
           (subst (λ (n : ℕ). IsDistinct nat_eq (n ∷ numbers (streaming_interfaces_of es all))) (sym sound.2.control_interface)
           (IsDistinct-cons nat_eq _ _ (control_differs es all blocks [] sound.3.control sound.3.in_turn) (differ es all blocks [] sound.3.in_turn).distinct));
+      control = subst (λ (n : ℕ). n < 256) (sym sound.2.control_interface) (small_control context.DeviceFront blocks sound.3.fields);
+      bytes = subst (All (λ s. s.number < 256)) (sym ss) (small_streams es all context.DeviceFront blocks sound.3.fields);
+      few = subst (All (λ s. length s.settings ≤ 16)) (sym ss) (few_settings (streaming_interfaces_of es all) (streams_within blocks sound.1));
       settings =
           subst (All (λ s. map (λ t. t.number) s.settings ≡ range_with_len 0 (length s.settings))) (sym ss)
           (λ k d below.

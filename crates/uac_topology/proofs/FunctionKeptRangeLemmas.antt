@@ -198,7 +198,7 @@ pub each_has_its_settings : (es : List Entity) (all : List DeclaredSetting) → 
 each_has_its_settings es all =
     All-filter_map (streaming_interface_at es all) (λ a. Unit {0}) (λ s. s.settings ≡ settings_of all s.number) (λ a s _ is. its_settings es all s a is) all (λ k d below. tt)
 
-got_at : {X : Type 0} (xs : List X) (k : ℕ) (d : X) → k < length xs → slice_get xs k ≡ Some (get_or xs k d)
+pub got_at : {X : Type 0} (xs : List X) (k : ℕ) (d : X) → k < length xs → slice_get xs k ≡ Some (get_or xs k d)
 got_at [] k d below = absurd (omega arith)
 got_at (x ∷ xs) zero d below = refl
 got_at (x ∷ xs) (suc k) d below = got_at xs k d (omega arith)

@@ -4,6 +4,7 @@ pub mod TopologyCycleLemmas
 pub mod TopologySizeLemmas
 pub mod ClustersLemmas
 pub mod FunctionKeptPinLemmas
+pub mod FunctionKeptByteLemmas
 pub mod FunctionKeptChannelLemmas
 pub mod FunctionKeptRangeLemmas
 pub mod FunctionKeptLinkLemmas

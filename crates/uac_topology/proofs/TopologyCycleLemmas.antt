@@ -1,5 +1,5 @@
 -- Where there is a cycle, and where there is none.
-use Rattle.std.proofs.Common.{◌≡◌, ◌⊎◌, Bool, ℕ, ◌<◌, ◌≤◌, List, [], ◌∷◌, Option, Some, None, refl, sym, ap, ◌∙◌, arith, inl, inr, subst}
+use Rattle.std.proofs.Common.{◌≡◌, ◌⊎◌, Bool, ℕ, ◌<◌, ◌≤◌, List, Option, Some, None, refl, ap, ◌∙◌, arith, inl, inr, subst}
 use Rattle.std.specs.Option.{option_map, option_or}
 use Rattle.std.proofs.lemmas.Option.{none-some, same_Some}
 use Rattle.uac_descriptor.specs.declared.block.Block as block
@@ -13,12 +13,12 @@ use Rattle.uac_topology_rules.specs.declared.fault.TopologyFault.{TopologyFault}
 use Rattle.uac_topology_rules.specs.Links.{signal_links, clock_links}
 use Rattle.uac_topology_rules.specs.Offenders.{offender, interface_offender}
 use Rattle.uac_topology_rules.specs.Rules as rules
-use Rattle.uac_topology_rules.specs.RuleFaults.{of_entity, of_interface, first_some, broken_names, broken_walks, broken_shapes, broken_ends, rule_fault}
+use Rattle.uac_topology_rules.specs.RuleFaults.{of_entity, of_interface, broken_names, broken_walks, broken_shapes, broken_ends, rule_fault}
 use Rattle.uac_topology_rules.specs.LinkCycles.{HasNoCycle, IsSignalFault, IsClockFault}
 use Rattle.uac_topology_rules.proofs.LinkCyclesLemmas.{cycles_are_named}
 use Rattle.uac_topology_rules.proofs.LinksLemmas.{or_none}
 use Rattle.uac_walk.proofs.CyclesLemmas as walks
-use Rattle.uac_topology.specs.Topology.{first_fault_of, streams_in, SoundHasNoCycle, IsRefusedBy, RefusesCycles, CyclesAreRefused}
+use Rattle.uac_topology.specs.Topology.{first_fault_of, streams_in, SoundHasNoCycle, IsRefusedBy, CyclesAreRefused}
 
 pub sound_has_no_cycle : SoundHasNoCycle
 unfolding first_fault_of rule_fault

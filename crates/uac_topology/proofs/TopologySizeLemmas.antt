@@ -1,6 +1,6 @@
 -- A sound function has at most eight domains and at most eight streaming interfaces.
 use Rattle.std.proofs.Common.{◌≡◌, ◌≢◌, ◌∙◌, sym, ap, subst, refl, arith, ℕ, zero, suc, ◌+◌, ◌<◌, ◌≤◌, ◌==◌, ◌&&◌, Bool, true, false, if◌then◌else◌, List, [], ◌∷◌, ◌++◌, None, length, take, inl, inr}
-use Rattle.std.proofs.lemmas.Bool.{cases_Bool, cases_lt, eqb-false, or_parts}
+use Rattle.std.proofs.lemmas.Bool.{cases_lt, eqb-false, or_parts}
 use Rattle.std.proofs.lemmas.List.{length_push, take_all, take_more}
 use Rattle.uac_entities.specs.Entities.{entities_of}
 use Rattle.uac_entities.specs.declared.entity.Entity.{Entity}

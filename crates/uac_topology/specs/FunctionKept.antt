@@ -1,6 +1,6 @@
 -- What a function keeps of the sentence that described it: Audio Class 2.0, 4.1, 4.7.2 and 4.9; Audio Data Formats 2.0,
 -- 2.3.1.6; USB 2.0, 9.6.5 and 9.6.6.
-use Rattle.std.specs.Prelude.{◌≡◌, ℕ, ◌≤◌, Bool, true, false, nat_eq, List, ◌∷◌, length, map, Some}
+use Rattle.std.specs.Prelude.{◌≡◌, ℕ, ◌<◌, ◌≤◌, Bool, true, false, nat_eq, List, ◌∷◌, length, map, Some}
 use Rattle.std.specs.List.{All, IsDistinct, range_with_len}
 use Rattle.uac_descriptor.specs.BlockFields.{IsHighSpeed, IsTypeOneFormat}
 use Rattle.uac_descriptor.specs.declared.standard.Endpoint.{Endpoint}
@@ -28,9 +28,12 @@ has_pins kind.Selector = true
 has_pins kind.Feature = true
 has_pins kind.Effect = true
 
--- every entity that takes a clock or a signal has at least one pin
+-- an entity that takes a clock or a signal has a pin, and none has more than fit a block
+abbrev pub HasPins : Entity → Type 0
+HasPins e = (has_pins e.kind ≡ true → 1 ≤ length e.sources) × (length e.sources ≤ 248)
+
 abbrev pub HavePins : List Entity → Type 0
-HavePins entities = All (λ e. has_pins e.kind ≡ true → 1 ≤ length e.sources) entities
+HavePins entities = All HasPins entities
 
 -- what is no clock puts out 1 to 32 channels
 abbrev pub HaveChannels : List Entity → Type 0
@@ -58,7 +61,11 @@ abbrev pub AreLinks : FunctionFields → Type 0
 AreLinks function =
     All (λ s. All (λ t. (g : General) → t.general ≡ Some g → IsLink function.entities s.terminal g.link) s.settings) function.streams
 
--- the control interface and the streaming interfaces have different numbers, and settings are numbered from 0
+-- the control interface and the streaming interfaces have different numbers, which are bytes, and the settings of each, at most 16,
+-- are numbered from 0
 pub record AreNumbered (function : FunctionFields) : Type 0 where
   pub different : IsDistinct nat_eq (function.control_interface ∷ map (λ s. s.number) function.streams)
+  pub control : function.control_interface < 256
+  pub bytes : All (λ s. s.number < 256) function.streams
+  pub few : All (λ s. length s.settings ≤ 16) function.streams
   pub settings : All (λ s. map (λ t. t.number) s.settings ≡ range_with_len 0 (length s.settings)) function.streams

@@ -29,7 +29,7 @@ pub fn sound_functions_are_small()
     ensures { (function : FunctionFields) → IsSoundFunction function → (length function.domains ≤ 8) × (length function.streams ≤ 8) }
 {}
 
-/// Each entity of a sound function that takes a clock or a signal from others has a pin.
+/// Each entity of a sound function that takes a clock or a signal from others has a pin, and none has more than 248.
 pub fn entities_have_pins()
     ensures { (function : FunctionFields) → IsSoundFunction function → HavePins function.entities }
 {}
@@ -49,7 +49,8 @@ pub fn settings_are_linked()
     ensures { (function : FunctionFields) → IsSoundFunction function → AreLinks function }
 {}
 
-/// The interfaces of a sound function have different numbers, and the settings of each are numbered from 0.
+/// The interfaces of a sound function have different numbers, which are bytes, and the settings of each streaming interface, at
+/// most 16, are numbered from 0.
 pub fn interfaces_are_numbered()
     ensures { (function : FunctionFields) → IsSoundFunction function → AreNumbered function }
 {}

@@ -8,5 +8,5 @@ use Rattle.uac_grammar.proofs.laws.no_stop_is_a_sentence.Goals as goal
 pub returns : goal.returns
 returns c = λ bytes are. (
   λ e. none_sentence bytes are (no_stop_no_fault (first_fault bytes) e),
-  λ (blocks, sentence). ap stop_at (sentence_none bytes blocks are sentence),
+  λ (blocks, sentence). ap stop_at (sentence_none bytes blocks sentence),
 )

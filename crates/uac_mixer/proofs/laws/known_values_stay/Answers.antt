@@ -2,4 +2,4 @@ use Rattle.uac_mixer.proofs.AgreementLemmas.{stays_known}
 use Rattle.uac_mixer.proofs.laws.known_values_stay.Goals as goal
 
 pub returns : goal.returns
-returns c = stays_known c.sound_functions_have_keys_and_rates.ensures.keys
+returns c = stays_known

@@ -5,7 +5,7 @@ use Rattle.uac_sentence.proofs.laws.no_fault_is_a_sentence.Goals as goal
 pub returns-clause-exact : goal.returns-clause-exact
 returns-clause-exact c = (
   none_sentence c.args.bytes.now (λ i. search rules),
-  λ (blocks, sentence). sentence_none c.args.bytes.now blocks (λ i. search rules) sentence,
+  λ (blocks, sentence). sentence_none c.args.bytes.now blocks sentence,
 )
 
 pub returns-clause-unique : goal.returns-clause-unique

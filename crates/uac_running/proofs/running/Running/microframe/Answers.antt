@@ -1,5 +1,6 @@
-use Rattle.std.proofs.Common.{subst, map, List}
+use Rattle.std.proofs.Common.{◌∙◌, ap, subst, map, List}
 use Rattle.std.specs.Io.KnownBytes.{Appends}
+use Rattle.uac_topology.specs.FunctionKept.{AreNumbered}
 use Rattle.uac_script.specs.Line.{phrase_mark}
 use Rattle.uac_units.specs.MeterReadings.{readings}
 use Rattle.uac_edges.specs.Writing.{AppendsFront}
@@ -7,6 +8,7 @@ use Rattle.uac_transcript.specs.Transcript.{Said}
 use Rattle.uac_transcript.specs.Printing.{text_of}
 use Rattle.uac_streaming.proofs.RoomDeviceLemmas.{HaveSmallNumbers}
 use Rattle.uac_running.specs.Events.{packets_and_ticks}
+use Rattle.uac_running.specs.RunningKept.{RunningFields}
 use Rattle.uac_running.proofs.RoomLemmas.{one_microframe, zeros_fit_in}
 use Rattle.uac_running.proofs.EventsLemmas.{microframe_front, microframe_next_front, microframe_told, number_line, numbered, passed}
 use Rattle.uac_transcript.proofs.PrintingLemmas.{Tells-handed_on}
@@ -41,7 +43,9 @@ returns-clause-tells g c r stands =
     let later = passed shown r c.args.self.now c.pass.new.self stands.now c.pass.ensures in
     let said = number_line r c.pass.new.self shown later in
     let number = subst (λ (lines : List Said). Appends (g.K.Sink.written c.args.sink.now) (g.K.Sink.written c.write_number.new.sink) (text_of lines)) said c.in_ok-write_number.ensures.printed in
-    let small = subst HaveSmallNumbers stands.now.streaming.device.function c.requires.small in
+    let kept : AreNumbered c.function.result.now = c.interfaces_are_numbered.ensures c.function.result.now c.functions_are_sound.ensures in
+    let own = c.function.ensures ∙ ap (λ (p : RunningFields). p.device.function) c.self.view_is ∙ stands.now.streaming.device.function in
+    let small = subst HaveSmallNumbers own kept.bytes in
     let first = c.in_ok-packets_and_ticks.ensures.tells (numbered r) later in
     microframe_told marks r c.ends_and_reports.new.self showing (g.K.Sink.written c.args.sink.now) (g.K.Sink.written c.write_number.new.sink) (g.K.Sink.written c.packets_and_ticks.new.sink)
     (g.K.Sink.written c.ends_and_reports.new.sink) c.ends_and_reports.result (one_microframe marks r small stands.room) number first.0

@@ -1,25 +1,18 @@
-use Rattle.std.proofs.Common.{ap, map, arith, ◌+◌, ◌-◌, ◌∙◌, refl, subst, sym}
+use Rattle.std.proofs.Common.{ap, map, arith, ◌+◌, ◌-◌, ◌∙◌, refl}
 use Rattle.uac_script.specs.Line.{phrase_mark}
 use Rattle.uac_units.specs.MeterReadings.{readings}
 use Rattle.uac_running.specs.Events.{microframe, microframes}
-use Rattle.uac_streaming.proofs.RoomDeviceLemmas.{HaveSmallNumbers}
-use Rattle.uac_running.specs.RunningKept.{RunningFields, RunningStandsBetween}
+use Rattle.uac_running.specs.RunningKept.{RunningStandsBetween}
 use Rattle.uac_running.proofs.TellingLemmas.{begun, finished, one_more, stopped}
 use Rattle.uac_running.proofs.EventsLemmas.{microframes_end, microframes_split}
 use Rattle.uac_transcript.proofs.PrintingLemmas.{Tells-handed_on}
 use Rattle.uac_running.proofs.running.Running.microframes.Goals as goal
-
-pub microframe-requires-clause-small : goal.microframe-requires-clause-small
-microframe-requires-clause-small g c =
-    subst HaveSmallNumbers (c.function.ensures ∙ ap (λ (p : RunningFields). p.device.function) c.self.view_is ∙ sym c.loop-passed.invariant.function)
-    c.numbers_are_bytes.ensures
 
 pub loop-passed-init : goal.loop-passed-init
 loop-passed-init g c = record {
   told = λ r stands.
       begun RunningStandsBetween (microframes (map phrase_mark c.args.marks.now) c.args.count r) (microframes (map phrase_mark c.args.marks.now) (c.args.count - 0)) c.args.self.now (readings (λ v x. (goal.Meter-dyn g (v, x)).reading_of x) c.args.meters.now) (g.K.Sink.written c.args.sink.now) r stands (ap (λ n. microframes (map phrase_mark c.args.marks.now) n r) (omega arith));
   faultless = refl;
-  function = refl;
 }
 
 pub returns-in_err-microframe-clause-tells : goal.returns-in_err-microframe-clause-tells
@@ -39,7 +32,6 @@ loop-passed-preserved g c = record {
       (g.K.Sink.written c.args.sink.now) (g.K.Sink.written c.loop-passed.sink) (g.K.Sink.written c.microframe.new.sink)
       (λ w. microframes_split (map phrase_mark c.args.marks.now) c.args.count c.loop-passed._passed w c.loop-passed-test.true) (c.loop-passed.invariant.told r stands) c.in_ok-microframe.ensures.tells;
   faultless = c.in_ok-microframe.ensures.cause.faultless ∙ c.loop-passed.invariant.faultless;
-  function = c.microframe.ensures.function ∙ c.loop-passed.invariant.function;
 }
 
 pub returns-clause-tells : goal.returns-clause-tells

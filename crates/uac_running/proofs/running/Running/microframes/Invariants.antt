@@ -13,5 +13,4 @@ invariant-loop-passed g l = record {
       → SoFar RunningStandsBetween (microframes (map phrase_mark l.marks) l.count r) (microframes (map phrase_mark l.marks) (l.count - l._passed)) l.self
       (readings (λ v x. (goal.Meter-dyn g (v, x)).reading_of x) l.meters) (g.K.Sink.written l.fn.sink) (g.K.Sink.written l.sink);
   faultless : g.K.Sink.faults l.sink ≡ g.K.Sink.faults l.fn.sink;
-  function : l.self.device.function ≡ l.initial.self.device.function;
 }
