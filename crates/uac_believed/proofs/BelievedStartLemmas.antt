@@ -63,7 +63,7 @@ all_known : (function : FunctionFields) → IsSoundFunction function
 unfolding known_view fresh
 all_known function sound =
     each_known function.entities (fresh function).controls (element_list function.entities) (starts have_pins keyed function sound)
-    (all_listed function.entities (keyed function sound).apart (have_pins function sound))
+    (all_listed function.entities (keyed function sound).apart)
 
 starts_believed : (bytes : List ℕ) (function : FunctionFields) (meters : List Reading) → IsSoundFunction function
     → IsBelieved (at_start bytes function meters)

@@ -79,8 +79,7 @@ fn announce<K: Sink>(running: Running, sink: &mut K) -> Result<Running, BusFault
     match running.ready(sink) {
         Ok(()) => Ok(running),
         Err(_) => {
-            // By a call, as a device that is dropped where its scope ends makes the proof twice as long.
-            drop(running);
+            running.let_go();
             Err(BusFault::WriteFault)
         }
     }

@@ -1,8 +1,7 @@
 -- The stream that a request asks for.
-use Rattle.std.proofs.Common.{◌≡◌, ◌∙◌, sym, refl, ap, ℕ, ◌==◌, Bool, true, false, cond, if◌then◌else◌, List, [], ◌∷◌, Option, Some, None}
+use Rattle.std.proofs.Common.{◌≡◌, ◌∙◌, refl, ap, ℕ, ◌==◌, Bool, true, false, cond, if◌then◌else◌, List, [], ◌∷◌, Option, Some, None}
 use Rattle.std.specs.List.{find, list_any}
 use Rattle.std.specs.Option.{option_and_then}
-use Rattle.std.proofs.lemmas.Bool.{eqb-true}
 use Rattle.uac_clock.specs.Nominal.{nominal_of}
 use Rattle.uac_entities.specs.declared.stream.Setting.{Setting}
 use Rattle.uac_entities.specs.declared.stream.StreamInterface.{StreamInterface}
@@ -50,13 +49,3 @@ unset function rate s setting there missing = by (setting == 0)
         ≡ None
     by true = refl
     by false = streams (find (λ t. t.number == s.number) function.streams) there
-
--- an interface that was found has the number
-pub has_number : (streams : List StreamInterface) (n : ℕ) (s : StreamInterface) → find (λ t. t.number == n) streams ≡ Some s → s.number ≡ n
-has_number [] n s found = absurd (cc)
-has_number (t ∷ streams) n s found = by (t.number == n) refl found (has_number streams n s)
-  where
-    by : (b : Bool) → (t.number == n) ≡ b → cond b (Some t) (find (λ u. u.number == n) streams) ≡ Some s
-        → (find (λ u. u.number == n) streams ≡ Some s → s.number ≡ n) → s.number ≡ n
-    by true same e others = let it : t ≡ s = cc in sym (ap (λ (u : StreamInterface). u.number) it) ∙ eqb-true t.number n same
-    by false other e others = others e

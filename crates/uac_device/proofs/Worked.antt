@@ -185,8 +185,8 @@ primes : ((settled_out (holding 1 255)).target ≡ None) × ((settled_out (holdi
 unfolding settled_out holding mono
 primes = (refl, refl, refl, refl)
 
--- no report falls due before the second microframe has ended: 6 frames while the stream is priming, then 1,024 parts more for each frame that is
--- missing
+-- no report falls due before the second microframe has ended: 6 frames while the stream is priming, then 1,024 parts more for each frame
+-- that is missing
 reports : (feedback_of (started_out (mono true)) ≡ None) × (feedback_of half ≡ None) × (feedback_of (record half { microframes = 4 }) ≡ Some 394240) × (feedback_of (record priming { microframes = 2 }) ≡ Some 393216)
 unfolding feedback_of half priming mono
 reports = (refl, refl, refl, refl)

@@ -1,5 +1,5 @@
 // The device and its events.
-ghost use Rattle.std.specs.Prelude.{◌≡◌, ◌≤◌, ◌<◌, ◌+◌, ◌^◌, ◌≤ℤ◌, ℕ, false, true, pos, negsuc, IfOk, length};
+ghost use Rattle.std.specs.Prelude.{◌≡◌, ◌≤◌, ◌<◌, ◌+◌, ◌^◌, ◌≤ℤ◌, false, true, pos, negsuc, IfOk, length};
 ghost use Rattle.std.specs.Option.{option_map};
 ghost use Rattle.uac_graph.specs.Meaning.{entity};
 ghost use Rattle.uac_graph.specs.Needs.{needed_units};
@@ -108,6 +108,9 @@ impl Device {
             device_streams,
         })
     }
+
+    /// Lets all go that the device holds. A caller that ends so needs no proof of its own of how each part is let go.
+    pub fn let_go(self) {}
 
     /// The device's function.
     pub fn function(&self) -> &Function

@@ -153,8 +153,8 @@ sent_bytes = (refl, refl)
 
 -- ---- feedback
 
--- no report falls due before the second microframe has ended: 6 frames while the stream is priming, then 1,024 parts more for each frame that is
--- missing
+-- no report falls due before the second microframe has ended: 6 frames while the stream is priming, then 1,024 parts more for each frame
+-- that is missing
 reports : (feedback_of (started_out (mono 1 true)) ≡ None) × (feedback_of (record (holding 1 4) { microframes = 2 }) ≡ Some 393216) × (feedback_of half ≡ None)
     × (feedback_of (record half { microframes = 4 }) ≡ Some 394240) × (feedback_of (record half { microframes = 4; taken = 2 }) ≡ Some 395264)
     × (feedback_of (record half { microframes = 4; taken = 0 }) ≡ Some 393216)

@@ -55,6 +55,9 @@ impl Reader {
         }
     }
 
+    /// Lets all go that the reader holds. A caller that ends so needs no proof of its own of how each part is let go.
+    pub fn let_go(self) {}
+
     /// Takes the next bytes. It answers the first fault of all bytes so far as soon as their number is
     /// past its place, unless the block there is cut off (rule G1), and stops there. A stop is answered
     /// again after that.

@@ -1,7 +1,7 @@
 -- A sound function has a signal graph.
-use Rattle.std.proofs.Common.{◌≡◌, ◌∙◌, sym, ap, subst, refl, arith, ℕ, ◌*◌, ◌<◌, ◌≤◌, ◌==◌, ◌&&◌, not, Bool, true, false, eqb, nat_lt, if◌then◌else◌, List, [], ◌∷◌, Option, Some, None, length, get_or, map, take, slice_get}
+use Rattle.std.proofs.Common.{◌≡◌, ◌∙◌, sym, ap, subst, refl, arith, ℕ, ◌*◌, ◌<◌, ◌≤◌, ◌==◌, ◌&&◌, not, Bool, true, false, eqb, nat_lt, if◌then◌else◌, List, [], ◌∷◌, length, get_or, map, take, slice_get}
 use Rattle.std.specs.List.{All, list_any}
-use Rattle.std.specs.Option.{option_map, option_map_or, is_none}
+use Rattle.std.specs.Option.{option_map_or}
 use Rattle.std.proofs.lemmas.Bool.{eqb-true, eq-eqb, or_parts, ltb-false}
 use Rattle.std.proofs.lemmas.List.{get_or_default, get_or-take, length-take-le}
 use Rattle.std.proofs.lemmas.List.Sums.{position_or_len_is}
@@ -14,16 +14,15 @@ use Rattle.uac_entities.specs.declared.entity.EntityKind.{EntityKind}
 use Rattle.uac_entities.specs.declared.entity.EntityKind.TheVariants as kind
 use Rattle.uac_topology_rules.specs.Clusters.{cluster_of, cluster_step, with_own_clusters, inputs, pins, takes_over}
 use Rattle.uac_topology_rules.specs.Links.{is_clock, signal_links, signal_sources}
-use Rattle.uac_topology_rules.specs.Rules.{breaks_u2, breaks_u3, breaks_u4, breaks_u6, breaks_u10, breaks_u14, is_output, is_selector, is_silent, too_large}
-use Rattle.uac_topology_rules.specs.Table.{at, first_index_of, kind_of, nothing, index_of, with_cluster}
+use Rattle.uac_topology_rules.specs.Rules.{breaks_u2, breaks_u6, breaks_u10, breaks_u14, is_output, is_selector, too_large}
+use Rattle.uac_topology_rules.specs.Table.{at, nothing, index_of, with_cluster}
 use Rattle.uac_topology_rules.proofs.ClustersLemmas.{cluster_is}
-use Rattle.uac_topology_rules.proofs.TableIdLemmas.{found_is}
 use Rattle.uac_topology.specs.Function.{FunctionFields}
 use Rattle.uac_topology.specs.FunctionKept.{HaveChannels}
 use Rattle.uac_topology.specs.Topology.{IsSoundFunction}
 use Rattle.uac_store.specs.StoreControls.{pins_of}
 use Rattle.uac_topology.proofs.ClustersLemmas.{with_own_clusters-at, length-with_own_clusters, same_index, seen_alike}
-use Rattle.uac_topology.proofs.FunctionKeptChannelLemmas.{have_channels}
+use Rattle.uac_topology.proofs.FunctionKeptChannelLemmas.{have_channels, source_there}
 use Rattle.uac_topology.proofs.TopologyRuleLemmas.{KeepsRules, rules_hold}
 use Rattle.uac_store.proofs.StoreControlsSoundLemmas.{same_pins}
 use Rattle.uac_graph.specs.Fitness.{FitsPins, IsSignalGraph}
@@ -44,31 +43,6 @@ module _ (es : List Entity) (h : KeepsRules es) (one : (k : ℕ) → k < length 
       ap (λ (e : Entity). eqb e.id (at es k).id) (sym (get_or-take k es j nothing before))
       ∙ none_at (λ (e : Entity). eqb e.id (at es k).id) (take k es) j nothing early (h.u2 k below))
       (λ _. eq-eqb (at es k).id (at es k).id refl)
-
-  -- a source is an entity that puts out a signal: no clock entity and no output terminal
-  source_there : (k i : ℕ) → k < length es → i < length (signal_sources (at es k))
-      → (index_of es (get_or (signal_sources (at es k)) i 0) < length es)
-      × (is_clock (at es (index_of es (get_or (signal_sources (at es k)) i 0))).kind ≡ false)
-      × (is_output (at es (index_of es (get_or (signal_sources (at es k)) i 0))).kind ≡ false)
-  unfolding breaks_u3 breaks_u4 kind_of
-  source_there k i below inside =
-      let s = get_or (signal_sources (at es k)) i 0 in
-      by s (first_index_of es s) refl
-      (none_at (λ id. is_none (kind_of es id)) (signal_sources (at es k)) i 0 inside (h.u3 k below))
-      (none_at (λ id. is_silent (kind_of es id)) (signal_sources (at es k)) i 0 inside (h.u4 k below))
-    where
-      by : (s : ℕ) (o : Option ℕ) → first_index_of es s ≡ o → is_none (option_map (λ p. (at es p).kind) (first_index_of es s)) ≡ false
-          → is_silent (option_map (λ p. (at es p).kind) (first_index_of es s)) ≡ false
-          → (index_of es s < length es) × (is_clock (at es (index_of es s)).kind ≡ false) × (is_output (at es (index_of es s)).kind ≡ false)
-      by s None e some loud =
-          let no : true ≡ false = ap (λ o. is_none (option_map (λ (p : ℕ). (at es p).kind) o)) (sym e) ∙ some in absurd (cc)
-      by s (Some p) e some loud =
-          let is = found_is es s p (sym e) in
-          let silent = or_parts _ _ (ap (λ o. is_silent (option_map (λ (q : ℕ). (at es q).kind) o)) (sym e) ∙ loud) in (
-            omega (arith, is.0, is.1),
-            ap (λ (q : ℕ). is_clock (at es q).kind) is.1 ∙ silent.0,
-            ap (λ (q : ℕ). is_output (at es q).kind) is.1 ∙ silent.1,
-          )
 
   -- the links of an entity, by its sources
   sources_at : (k : ℕ) → is_clock (at es k).kind ≡ false → links (signal_links es) k ≡ map (index_of es) (at es k).sources
@@ -182,7 +156,7 @@ module _ (es : List Entity) (h : KeepsRules es) (one : (k : ℕ) → k < length 
       (λ i d inside.
       let s = get_or (signal_sources (at es k)) i 0 in
       subst (λ (n : ℕ). test (entity (with_own_clusters es) n).kind ≡ false) (get_or_default (signal_sources (at es k)) i 0 d inside)
-      (ap (λ (e : Entity). test e.kind) (entity_clustered s (source_there k i below inside).0) ∙ none k i below inside))
+      (ap (λ (e : Entity). test e.kind) (entity_clustered s (source_there es h k i below inside).0) ∙ none k i below inside))
 
   graph : IsSignalGraph (with_own_clusters es)
   unfolding breaks_u6 signal_sources pins_of at
@@ -190,8 +164,8 @@ module _ (es : List Entity) (h : KeepsRules es) (one : (k : ℕ) → k < length 
     distinct = λ k within.
         let below : k < length es = omega (arith, within, length-with_own_clusters es) in
         ap (λ (e : Entity). index_of (with_own_clusters es) e.id) (at_clustered k below) ∙ same_index es (at es k).id ∙ first_index k below;
-    heard = sources_keep is_clock (λ k i below inside. (source_there k i below inside).1);
-    no_ends = sources_keep is_output (λ k i below inside. (source_there k i below inside).2);
+    heard = sources_keep is_clock (λ k i below inside. (source_there es h k i below inside).1);
+    no_ends = sources_keep is_output (λ k i below inside. (source_there es h k i below inside).2);
     acyclic = λ k within.
         let below : k < length es = omega (arith, within, length-with_own_clusters es) in
         (λ j. has_walk (same_links j) (length-with_own_clusters es j) k) ∙ h.u6 k below;

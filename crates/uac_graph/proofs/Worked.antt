@@ -75,7 +75,8 @@ right_muted : meaning graph (set 3 1 2 (pos 1) unset) (given (pos 1) (negsuc 0) 
 unfolding graph unset set given meaning samples samples_by entity frame_of at index_of signal_sources decibel_gain raised_gain
 right_muted = refl
 
--- of the mixer's eight nodes, numbered by inputs, those of inputs 1 and 2 with output 2 and those of inputs 3 and 4 with output 1 are closed
+-- of the mixer's eight nodes, numbered by inputs, those of inputs 1 and 2 with output 2 and those of inputs 3 and 4 with output 1 are
+-- closed
 half_open : Controls
 half_open = set 8 1 1 (negsuc 32767) (set 8 1 3 (negsuc 32767) (set 8 1 4 (negsuc 32767) (set 8 1 6 (negsuc 32767) unset)))
 

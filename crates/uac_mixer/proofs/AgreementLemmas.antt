@@ -53,7 +53,7 @@ held_as entities controls x store m = from (value_of controls x.key) refl where
   from (Some v) is = record {
     value = v;
     is = is;
-    fits = kinds.fits (length m.entity.sources) m.entity.attributes v m.pins (sym (ap (λ (o : Option Entity). option_map_or (takes_on x.key.selector v) o false) m.found) ∙ store.values x.key v is);
+    fits = kinds.fits (length m.entity.sources) m.entity.attributes v (sym (ap (λ (o : Option Entity). option_map_or (takes_on x.key.selector v) o false) m.found) ∙ store.values x.key v is);
   }
 
 -- ---- transfers of an element

@@ -48,7 +48,7 @@ pub record Agrees (k : EntityKind) (s : ℕ) (x : ElementKind) : Type 0 where
   pub signed : is_signed k s ≡ is_gain x
   pub above : nat_lt 0 s ≡ true
   pub kept : nat_le s (selectors_of k) ≡ true
-  pub fits : (pins attributes : ℕ) (v : ℤ) → pins ≤ 248 → takes_by k pins attributes s v ≡ true → fits_element x v ≡ true
+  pub fits : (pins attributes : ℕ) (v : ℤ) → takes_by k pins attributes s v ≡ true → fits_element x v ≡ true
   pub told : (e : Entity) (controls : List (Key × ℤ)) (key : Key) → e.kind ≡ k → key.selector ≡ s → entity_bytes k e controls key ≡ kept_bytes controls key (Some (width_of x))
 
 -- the control of a clock source that keeps a value isn't its validity
@@ -67,7 +67,7 @@ rate = record {
   signed = refl;
   above = refl;
   kept = refl;
-  fits = λ pins attributes v few taken. frequency attributes v taken;
+  fits = λ pins attributes v taken. frequency attributes v taken;
   told = λ e controls key of is. of_source (key.selector == 2) key.selector (1 ∷ []) (kept_bytes controls key (entity_width e.kind key.selector)) (kept_bytes controls key (Some 4)) refl is (width_told kind.ClockSource 1 shown.Rate e controls key refl of is);
 }
 
@@ -77,7 +77,7 @@ clock = record {
   signed = refl;
   above = refl;
   kept = refl;
-  fits = λ pins attributes v few taken. byte v (taken_within kind.ClockSelector pins attributes 1 v few refl refl taken);
+  fits = λ pins attributes v taken. byte v (taken_within kind.ClockSelector pins attributes 1 v refl refl taken);
   told = λ e controls key of is. width_told kind.ClockSelector 1 shown.Clock e controls key refl of is;
 }
 
@@ -87,7 +87,7 @@ times = record {
   signed = refl;
   above = refl;
   kept = refl;
-  fits = λ pins attributes v few taken. word v (taken_within kind.ClockMultiplier pins attributes 1 v few refl refl taken);
+  fits = λ pins attributes v taken. word v (taken_within kind.ClockMultiplier pins attributes 1 v refl refl taken);
   told = λ e controls key of is. width_told kind.ClockMultiplier 1 shown.Times e controls key refl of is;
 }
 
@@ -97,7 +97,7 @@ over = record {
   signed = refl;
   above = refl;
   kept = refl;
-  fits = λ pins attributes v few taken. word v (taken_within kind.ClockMultiplier pins attributes 2 v few refl refl taken);
+  fits = λ pins attributes v taken. word v (taken_within kind.ClockMultiplier pins attributes 2 v refl refl taken);
   told = λ e controls key of is. width_told kind.ClockMultiplier 2 shown.Over e controls key refl of is;
 }
 
@@ -107,7 +107,7 @@ mix = record {
   signed = refl;
   above = refl;
   kept = refl;
-  fits = λ pins attributes v few taken. gain v (taken_within kind.Mixer pins attributes 1 v few refl refl taken);
+  fits = λ pins attributes v taken. gain v (taken_within kind.Mixer pins attributes 1 v refl refl taken);
   told = λ e controls key of is. width_told kind.Mixer 1 shown.Mix e controls key refl of is;
 }
 
@@ -117,7 +117,7 @@ select = record {
   signed = refl;
   above = refl;
   kept = refl;
-  fits = λ pins attributes v few taken. byte v (taken_within kind.Selector pins attributes 1 v few refl refl taken);
+  fits = λ pins attributes v taken. byte v (taken_within kind.Selector pins attributes 1 v refl refl taken);
   told = λ e controls key of is. width_told kind.Selector 1 shown.Select e controls key refl of is;
 }
 
@@ -127,7 +127,7 @@ mute = record {
   signed = refl;
   above = refl;
   kept = refl;
-  fits = λ pins attributes v few taken. byte v (taken_within kind.Feature pins attributes 1 v few refl refl taken);
+  fits = λ pins attributes v taken. byte v (taken_within kind.Feature pins attributes 1 v refl refl taken);
   told = λ e controls key of is. width_told kind.Feature 1 shown.Mute e controls key refl of is;
 }
 
@@ -137,7 +137,7 @@ volume = record {
   signed = refl;
   above = refl;
   kept = refl;
-  fits = λ pins attributes v few taken. gain v (taken_within kind.Feature pins attributes 2 v few refl refl taken);
+  fits = λ pins attributes v taken. gain v (taken_within kind.Feature pins attributes 2 v refl refl taken);
   told = λ e controls key of is. width_told kind.Feature 2 shown.Volume e controls key refl of is;
 }
 
@@ -147,7 +147,7 @@ enable = record {
   signed = refl;
   above = refl;
   kept = refl;
-  fits = λ pins attributes v few taken. byte v (taken_within kind.Effect pins attributes 1 v few refl refl taken);
+  fits = λ pins attributes v taken. byte v (taken_within kind.Effect pins attributes 1 v refl refl taken);
   told = λ e controls key of is. width_told kind.Effect 1 shown.Enable e controls key refl of is;
 }
 

@@ -1,5 +1,5 @@
 -- The elements of a view are declared controls of its entities.
-use Rattle.std.proofs.Common.{◌≡◌, ◌∙◌, refl, ap, sym, subst, ℕ, ◌+◌, ◌<◌, ◌≤◌, ◌==◌, nat_eq, nat_lt, Bool, true, false, if◌then◌else◌, zero, suc, List, [], ◌∷◌, ◌++◌, map, length, get_or, sum, Option, Some, None, add-one, append_assoc, arith}
+use Rattle.std.proofs.Common.{◌≡◌, ◌∙◌, refl, ap, sym, subst, ℕ, ◌+◌, ◌<◌, ◌==◌, nat_eq, nat_lt, Bool, true, false, if◌then◌else◌, zero, suc, List, [], ◌∷◌, ◌++◌, map, length, get_or, sum, Option, Some, None, add-one, append_assoc, arith}
 use Rattle.std.specs.List.{All, AllByRecursion, IsDistinct, cons_option, filter_map, flat_map, range_with_len}
 use Rattle.std.specs.Option.{option_and_then}
 use Rattle.std.proofs.lemmas.Bool.{eqb-true, eqb-false, eq-eqb}
@@ -7,13 +7,10 @@ use Rattle.std.proofs.lemmas.List.Elements.{All-from_recursion, filter_map-appen
 use Rattle.uac_entities.specs.EntityInterfaces.{entity_by_id}
 use Rattle.uac_entities.specs.declared.entity.Entity.{Entity}
 use Rattle.uac_topology.specs.Function.{FunctionFields}
-use Rattle.uac_topology.specs.FunctionKept.{HasPins, HavePins}
 use Rattle.uac_topology.specs.Topology.{IsSoundFunction}
-use Rattle.uac_topology.proofs.FunctionKeptPinLemmas.{have_pins}
 use Rattle.uac_store.specs.ControlTable.{IsSmall, selectors_of}
 use Rattle.uac_store.specs.StoreControls.{IsKeyed, count_of, pins_of}
 use Rattle.uac_store.specs.Keyed.{key_of}
-use Rattle.uac_store.proofs.StoreControlsIdLemmas.{all_named}
 use Rattle.uac_store.proofs.StoreControlsSoundLemmas.{keyed}
 use Rattle.uac_request.specs.Requests.{is_declared_on, is_writable_on}
 use Rattle.uac_mixer.specs.declared.kinds.ElementKind.{ElementKind}
@@ -25,7 +22,6 @@ use Rattle.uac_mixer.specs.ViewWorld.{IsViewOf, ViewWorld}
 pub record IsElementOf (entities : List Entity) (x : Element) : Type 0 where
   pub entity : Entity
   pub found : entity_by_id entities x.key.entity ≡ Some entity
-  pub pins : length entity.sources ≤ 248
   pub shows : kind_at entity.kind x.key.selector ≡ Some x.kind
   pub channel : nat_lt x.key.channel (count_of entities entity) ≡ true
   pub declared : is_declared_on entity.kind entity x.key.selector x.key.channel ≡ true
@@ -97,13 +93,13 @@ abbrev unread_on : Entity → ℕ → ℕ → ElementKind → Element
 unread_on e s c k = record { key = key_of e.id s c; kind = k; writable = is_writable_on e.kind e s c; value = None }
 
 -- what it is
-from_control : (entities : List Entity) (e : Entity) (s c : ℕ) (y : Element) → entity_by_id entities e.id ≡ Some e → length e.sources ≤ 248 → c < count_of entities e → element_on e s c ≡ Some y → IsElementOf entities y
-from_control entities e s c y found pins below is = of_kind (kind_at e.kind s) refl is where
+from_control : (entities : List Entity) (e : Entity) (s c : ℕ) (y : Element) → entity_by_id entities e.id ≡ Some e → c < count_of entities e → element_on e s c ≡ Some y → IsElementOf entities y
+from_control entities e s c y found below is = of_kind (kind_at e.kind s) refl is where
   if_declared : (k : ElementKind) (b : Bool) → kind_at e.kind s ≡ Some k → is_declared_on e.kind e s c ≡ b → (if b then Some (unread_on e s c k) else None) ≡ Some y → IsElementOf entities y
   if_declared k true shows declared is =
       let same : unread_on e s c k ≡ y = cc in
       let within : nat_lt c (count_of entities e) ≡ true = grind arith in
-      subst (IsElementOf entities) same (record { entity = e; found = found; pins = pins; shows = shows; channel = within; declared = declared })
+      subst (IsElementOf entities) same (record { entity = e; found = found; shows = shows; channel = within; declared = declared })
   if_declared k false shows declared is = cc
 
   of_kind : (o : Option ElementKind) → kind_at e.kind s ≡ o → option_and_then (λ k. if is_declared_on e.kind e s c then Some (unread_on e s c k) else None) o ≡ Some y → IsElementOf entities y
@@ -126,15 +122,15 @@ in_entity P entities e each =
     (every (λ s. AllByRecursion P (control_elements entities e s)) (range_with_len 1 (selectors_of e.kind))
     (λ s. in_control P entities e s (each s)))
 
-of_entity : (entities : List Entity) (e : Entity) → entity_by_id entities e.id ≡ Some e → length e.sources ≤ 248 → AllByRecursion (IsElementOf entities) (entity_elements entities e)
-of_entity entities e found pins = in_entity (IsElementOf entities) entities e (λ s c y below is. from_control entities e s c y found pins below is)
+of_entity : (entities : List Entity) (e : Entity) → entity_by_id entities e.id ≡ Some e → AllByRecursion (IsElementOf entities) (entity_elements entities e)
+of_entity entities e found = in_entity (IsElementOf entities) entities e (λ s c y below is. from_control entities e s c y found below is)
 
-pub all_listed : (entities : List Entity) → IsDistinct nat_eq (map (λ e. e.id) entities) → HavePins entities → AllByRecursion (IsElementOf entities) (element_list entities)
+pub all_listed : (entities : List Entity) → IsDistinct nat_eq (map (λ e. e.id) entities) → AllByRecursion (IsElementOf entities) (element_list entities)
 unfolding element_list
-all_listed entities distinct have =
+all_listed entities distinct =
     flat (IsElementOf entities) (entity_elements entities) entities
     (weaker (λ e. entity_by_id entities e.id ≡ Some e) (λ e. AllByRecursion (IsElementOf entities) (entity_elements entities e)) entities
-    (λ e found. of_entity entities e found (all_named HasPins entities e.id e have found).1) (named_itself entities distinct))
+    (λ e found. of_entity entities e found) (named_itself entities distinct))
 
 -- what is so of it for each kind
 as_listed : (P : Element → Type 0) (e : Entity) (s c : ℕ) (y : Element) → ((k : ElementKind) → P (unread_on e s c k)) → element_on e s c ≡ Some y → P y
@@ -161,14 +157,14 @@ none_read entities =
 
 -- an element is what it is, read or not
 as_read : (entities : List Entity) (x : Element) → IsElementOf entities (with_no_value x) → IsElementOf entities x
-as_read entities x is = record { entity = is.entity; found = is.found; pins = is.pins; shows = is.shows; channel = is.channel; declared = is.declared }
+as_read entities x is = record { entity = is.entity; found = is.found; shows = is.shows; channel = is.channel; declared = is.declared }
 
 pub members : (function : FunctionFields) (view : ViewWorld) → IsSoundFunction function → IsViewOf function.entities view → All (IsElementOf function.entities) view.elements
 members function view sound is =
     All-from_recursion (IsElementOf function.entities) view.elements
     (weaker (λ x. IsElementOf function.entities (with_no_value x)) (IsElementOf function.entities) view.elements (as_read function.entities)
     (unmapped (IsElementOf function.entities) with_no_value view.elements
-    (subst (λ xs. AllByRecursion (IsElementOf function.entities) xs) (sym is) (all_listed function.entities (keyed function sound).apart (have_pins function sound)))))
+    (subst (λ xs. AllByRecursion (IsElementOf function.entities) xs) (sym is) (all_listed function.entities (keyed function sound).apart))))
 
 -- ---- listing
 

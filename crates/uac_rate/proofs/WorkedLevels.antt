@@ -21,8 +21,8 @@ table : map values_of twelve_rates ≡
 unfolding values_of
 table = refl
 
--- by how much a rate meets each fact of its band: what the least packet takes and the greatest brings beyond a slight deviation, how far these
--- two are apart, and what an error of 66 frames asks for beyond them
+-- by how much a rate meets each fact of its band: what the least packet takes and the greatest brings beyond a slight deviation, how far
+-- these two are apart, and what an error of 66 frames asks for beyond them
 record Margins : Type 0 where
   below : ℕ
   above : ℕ

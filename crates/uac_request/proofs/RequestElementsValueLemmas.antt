@@ -14,7 +14,7 @@ use Rattle.uac_store.specs.declared.keys.Key.{Key}
 use Rattle.uac_store.specs.ControlTable.{IsSmall, count_by, selectors_of, takes_by}
 use Rattle.uac_store.specs.StoreControls.{count_of, has_control, has_on, IsStoreOf, nodes_of, pins_of, takes, takes_on}
 use Rattle.uac_store.specs.Keyed.{value_of}
-use Rattle.uac_store.proofs.StoreControlsIdLemmas.{all_named, few_pins, small_named}
+use Rattle.uac_store.proofs.StoreControlsIdLemmas.{all_named, small_named}
 use Rattle.uac_store.proofs.StoreControlsSoundLemmas.{keyed}
 use Rattle.uac_request.specs.RequestElements.{is_signed_at, width_at}
 use Rattle.uac_request.specs.Requests.{entity_width, is_signed, value_bytes, value_from}
@@ -71,13 +71,13 @@ few_channels function k e sound kept =
     (ltb-true k.channel (count_by e.kind (nodes_of function.entities e) e.cluster.channels) kept.within)
 
 -- a held value comes back from its control's bytes
-pub held_comes_back : (function : FunctionFields) (controls : List (Key × ℤ)) (k : Key) (v : ℤ) → IsSoundFunction function → IsStoreOf function.entities controls → value_of controls k ≡ Some v → value_from (is_signed_at function.entities k) (value_bytes (width_at function.entities k) v) ≡ v
+pub held_comes_back : (entities : List Entity) (controls : List (Key × ℤ)) (k : Key) (v : ℤ) → IsStoreOf entities controls → value_of controls k ≡ Some v → value_from (is_signed_at entities k) (value_bytes (width_at entities k) v) ≡ v
 unfolding takes takes_on
-held_comes_back function controls k v sound store is =
-    let found = kept_in function.entities controls k v store is in
+held_comes_back entities controls k v store is =
+    let found = kept_in entities controls k v store is in
     let e : Entity = found.0 in
-    let kept : IsKept function.entities k e = found.1 in
+    let kept : IsKept entities k e = found.1 in
     let taken : takes_by e.kind (length e.sources) e.attributes k.selector v ≡ true = ap (λ o. option_map_or (takes_on k.selector v) o false) (sym kept.is) ∙ store.values k v is in
     rw kept.is
     (value_back (unwrap_or (entity_width e.kind k.selector) 0) (width_of_kept e.kind k.selector kept.some kept.low) (is_signed e.kind k.selector) v
-    (taken_within e.kind (length e.sources) e.attributes k.selector v (few_pins function k.entity e sound kept.is) kept.some kept.low taken))
+    (taken_within e.kind (length e.sources) e.attributes k.selector v kept.some kept.low taken))

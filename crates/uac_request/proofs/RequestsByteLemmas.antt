@@ -1,6 +1,6 @@
 -- Values that come back from their bytes.
 use Rattle.std.proofs.Common.{◌≡◌, ◌∙◌, sym, ap, [], ℕ, ◌-◌, ◌*◌, ◌/◌, ◌%◌, ◌^◌, ◌==◌, ◌<◌, ◌≤◌, nat_lt, nat_le, Bool, true, false, ℤ, pos, negsuc, ◌⊎◌, inl, inr, length, unwrap_or, refl, is_some, arith}
-use Rattle.std.proofs.lemmas.Bool.{cases_Bool}
+use Rattle.std.proofs.lemmas.Bool.{and_parts, cases_Bool}
 use Rattle.std.proofs.lemmas.List.{append-nil}
 use Rattle.byteorder.specs.Endian.{little_bytes, little_number}
 use Rattle.byteorder.specs.Numbers.{length-bytes_low_first, little_number-reads_back}
@@ -8,7 +8,7 @@ use Rattle.uac_clock.specs.Nominal.{is_listed}
 use Rattle.uac_entities.specs.declared.entity.EntityKind.{EntityKind}
 use Rattle.uac_entities.specs.declared.entity.EntityKind.TheVariants as kind
 use Rattle.uac_gain.specs.Gain.{gain_of}
-use Rattle.uac_store.specs.ControlTable.{is_frequency, is_one_to, is_switch, selectors_of, takes_by}
+use Rattle.uac_store.specs.ControlTable.{is_frequency, is_one_to, is_pin, is_switch, selectors_of, takes_by}
 use Rattle.uac_store.proofs.ControlTableLemmas.{at_each}
 use Rattle.uac_request.specs.Requests.{complement, entity_width, is_signed, IsWithin, value_bytes, value_from}
 
@@ -74,6 +74,9 @@ choice_within : (most w : ℕ) (v : ℤ) → most < 256 ^ w → is_one_to most v
 choice_within most w (negsuc n) few taken = cc
 choice_within most w (pos n) few taken = (let below : n ≤ most = grind arith in omega arith)
 
+pin_within : (pins : ℕ) (v : ℤ) → is_pin pins v ≡ true → IsWithin false 1 v
+pin_within pins v taken = choice_within 255 1 v (omega arith) (and_parts (is_one_to 255 v) (is_one_to pins v) taken).0
+
 switch_within : (v : ℤ) → is_switch v ≡ true → IsWithin false 1 v
 switch_within (negsuc n) taken = cc
 switch_within (pos n) taken = grind arith
@@ -89,16 +92,16 @@ volume_within (pos n) taken = (let few : n ≤ 3072 = above_within n taken in om
 volume_within (negsuc n) taken = (let few : n ≤ 32767 = below_within n taken in omega arith)
 
 -- the first control of a kind, and the second where it keeps a value
-first_within : (k : EntityKind) (pins attributes : ℕ) (v : ℤ) → pins ≤ 248 → takes_by k pins attributes 1 v ≡ true → IsWithin (is_signed k 1) (unwrap_or (entity_width k 1) 0) v
-first_within kind.ClockSource pins attributes v few taken = frequency_within attributes v taken
-first_within kind.ClockSelector pins attributes v few taken = choice_within pins 1 v (omega arith) taken
-first_within kind.ClockMultiplier pins attributes v few taken = choice_within 8 2 v (omega arith) taken
-first_within kind.InputTerminal pins attributes v few taken = cc
-first_within kind.OutputTerminal pins attributes v few taken = cc
-first_within kind.Mixer pins attributes v few taken = volume_within v taken
-first_within kind.Selector pins attributes v few taken = choice_within pins 1 v (omega arith) taken
-first_within kind.Feature pins attributes v few taken = switch_within v taken
-first_within kind.Effect pins attributes v few taken = switch_within v taken
+first_within : (k : EntityKind) (pins attributes : ℕ) (v : ℤ) → takes_by k pins attributes 1 v ≡ true → IsWithin (is_signed k 1) (unwrap_or (entity_width k 1) 0) v
+first_within kind.ClockSource pins attributes v taken = frequency_within attributes v taken
+first_within kind.ClockSelector pins attributes v taken = pin_within pins v taken
+first_within kind.ClockMultiplier pins attributes v taken = choice_within 8 2 v (omega arith) taken
+first_within kind.InputTerminal pins attributes v taken = cc
+first_within kind.OutputTerminal pins attributes v taken = cc
+first_within kind.Mixer pins attributes v taken = volume_within v taken
+first_within kind.Selector pins attributes v taken = pin_within pins v taken
+first_within kind.Feature pins attributes v taken = switch_within v taken
+first_within kind.Effect pins attributes v taken = switch_within v taken
 
 second_within : (k : EntityKind) (pins attributes : ℕ) (v : ℤ) → nat_le 2 (selectors_of k) ≡ true → takes_by k pins attributes 2 v ≡ true → IsWithin (is_signed k 2) (unwrap_or (entity_width k 2) 0) v
 second_within kind.ClockSource pins attributes v low taken = cc
@@ -133,10 +136,10 @@ second_width kind.Selector low = cc
 second_width kind.Feature low = inr (inl refl)
 second_width kind.Effect low = cc
 
-pub taken_within : (k : EntityKind) (pins attributes selector : ℕ) (v : ℤ) → pins ≤ 248 → nat_lt 0 selector ≡ true → nat_le selector (selectors_of k) ≡ true → takes_by k pins attributes selector v ≡ true → IsWithin (is_signed k selector) (unwrap_or (entity_width k selector) 0) v
-taken_within k pins attributes selector v few some low =
+pub taken_within : (k : EntityKind) (pins attributes selector : ℕ) (v : ℤ) → nat_lt 0 selector ≡ true → nat_le selector (selectors_of k) ≡ true → takes_by k pins attributes selector v ≡ true → IsWithin (is_signed k selector) (unwrap_or (entity_width k selector) 0) v
+taken_within k pins attributes selector v some low =
     at_each k (λ s. takes_by k pins attributes s v ≡ true → IsWithin (is_signed k s) (unwrap_or (entity_width k s) 0) v) selector some low
-    (λ there taken. first_within k pins attributes v few taken) (λ there taken. second_within k pins attributes v there taken)
+    (λ there taken. first_within k pins attributes v taken) (λ there taken. second_within k pins attributes v there taken)
 
 pub width_of_kept : (k : EntityKind) (selector : ℕ) → nat_lt 0 selector ≡ true → nat_le selector (selectors_of k) ≡ true → IsWidth (unwrap_or (entity_width k selector) 0)
 width_of_kept k selector some low = at_each k (λ s. IsWidth (unwrap_or (entity_width k s) 0)) selector some low (first_width k) (second_width k)

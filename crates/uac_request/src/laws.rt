@@ -5,6 +5,7 @@ ghost use Rattle.std.specs.Int.{bit_at};
 ghost use Rattle.byteorder.specs.Endian.{little_number};
 ghost use Rattle.uac_alt.specs.AltSettings.{initial_settings, is_running};
 ghost use Rattle.uac_alt.specs.declared.settings.InterfaceSetting.{InterfaceSetting};
+ghost use Rattle.uac_entities.specs.declared.entity.Entity.{Entity};
 ghost use Rattle.uac_entities.specs.declared.stream.StreamInterface.{StreamInterface};
 ghost use Rattle.uac_topology.specs.Function.{FunctionFields, interface_in};
 ghost use Rattle.uac_topology.specs.Topology.{IsSoundFunction};
@@ -24,15 +25,13 @@ pub fn each_interface_starts_with_a_setting()
     ensures { (function : FunctionFields) → AreSettingsOf function (initial_settings function) }
 {}
 
-/// A value comes back from its bytes: one that has a place in one, two or four bytes, and so each that a control of
-/// a sound function holds.
+/// A value comes back from its bytes: one that has a place in one, two or four bytes, and so each that a control holds.
 #[tactic(auto, using(crate::proofs::RequestsByteLemmas::value_back, crate::proofs::RequestElementsValueLemmas::held_comes_back))]
 pub fn values_come_back()
     ensures plain { (width : ℕ) (signed : Bool) (v : ℤ) → (width ≡ 1) ⊎ (width ≡ 2) ⊎ (width ≡ 4) → IsWithin signed width v
         → value_from signed (value_bytes width v) ≡ v }
-    ensures held { (function : FunctionFields) (controls : List (Key × ℤ)) (k : Key) (v : ℤ) → IsSoundFunction function
-        → IsStoreOf function.entities controls → value_of controls k ≡ Some v
-        → value_from (is_signed_at function.entities k) (value_bytes (width_at function.entities k) v) ≡ v }
+    ensures held { (entities : List Entity) (controls : List (Key × ℤ)) (k : Key) (v : ℤ) → IsStoreOf entities controls
+        → value_of controls k ≡ Some v → value_from (is_signed_at entities k) (value_bytes (width_at entities k) v) ≡ v }
 {}
 
 /// The request for the value of a declared control is answered with the value that is held, in the control's bytes, and

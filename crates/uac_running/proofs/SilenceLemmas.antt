@@ -194,8 +194,8 @@ rests_after clock meters r p stands jacks quiet =
 
 -- ---- the ticks of a microframe
 
--- a running device between two ticks: where a domain is silent none of its jacks sounds, and where its jacks rest they gave silence last; where
--- it is still no interface runs a stream, and where its streams rest the terminals of the bus gave silence last
+-- a running device between two ticks: where a domain is silent none of its jacks sounds, and where its jacks rest they gave silence last;
+-- where it is still no interface runs a stream, and where its streams rest the terminals of the bus gave silence last
 pub record RestsSo (silent still jacks device_streams : Bool) (clock : ℕ) (p : RunningFields) (meters : List Reading) (r : RunningWorld) : Type 0 where
   pub now : RunningStands p meters r
   pub quiet : silent ≡ true → one_sounds clock r.jacks ≡ false

@@ -113,19 +113,31 @@ impl Running {
     {
         functions_are_sound(&function);
         let beside = fresh_beside(alloc, &function)?;
-        let viewed = fresh_viewed(alloc, function)?;
-        Ok(Running {
-            device: viewed.device,
-            view: viewed.view,
-            configuration,
-            breaks: None,
-            streaming: beside.streaming,
-            jacks: beside.jacks,
-            counts: beside.counts,
-            time: 0,
-            detail: 0,
-            renders: 0,
-        })
+        match fresh_viewed(alloc, function) {
+            Ok(viewed) => Ok(Running {
+                device: viewed.device,
+                view: viewed.view,
+                configuration,
+                breaks: None,
+                streaming: beside.streaming,
+                jacks: beside.jacks,
+                counts: beside.counts,
+                time: 0,
+                detail: 0,
+                renders: 0,
+            }),
+            Err(NoMemory) => {
+                beside.streaming.let_go();
+                Err(NoMemory)
+            }
+        }
+    }
+
+    /// Lets all go: the device and the host's streams by calls, and the rest at its end. A caller that ends so needs no proof of
+    /// its own of how each part is let go.
+    pub fn let_go(self) {
+        self.device.let_go();
+        self.streaming.let_go();
     }
 
     /// The device's function.

@@ -1,22 +1,21 @@
 // Control transfers of a running device, and the elements of the host's view.
-ghost use Rattle.std.specs.Prelude.{◌≡◌, ◌&&◌, ◌≤◌, ◌<◌, ◌∷◌, [], ℕ, List, length, slice_get, position, true, false, Some, None, IfOk};
+ghost use Rattle.std.specs.Prelude.{◌≡◌, ◌&&◌, ◌<◌, ◌∷◌, [], List, length, slice_get, true, false, Some, None, IfOk};
 ghost use Rattle.std.specs.Prelude.{IfSome};
 ghost use Rattle.std.specs.Option.{option_and_then, option_map, option_map_or};
 ghost use Rattle.uac_store.specs.StoreControls.{initial_controls};
-ghost use Rattle.uac_store.specs.Keyed.{value_of};
 ghost use Rattle.uac_request.specs.Requests.{answer_fields, value_bytes, sets_interface, is_done_answer};
 ghost use Rattle.uac_units.specs.Hearing.{Reading};
 ghost use Rattle.uac_edges.specs.Faults.{HasCause};
 ghost use Rattle.uac_device.specs.DeviceWorld.{DeviceWorld, fresh};
 ghost use Rattle.uac_device.specs.DeviceKept as kept;
 ghost use Rattle.uac_mixer.specs.declared.element.Element.{Element};
-ghost use Rattle.uac_mixer.specs.MixerElements.{fits_element, name_of, width_of};
+ghost use Rattle.uac_mixer.specs.MixerElements.{fits_element, width_of};
 ghost use Rattle.uac_mixer.specs.ViewTransfers.{came_of, came_of_set, get_of, set_of};
 ghost use Rattle.uac_mixer.specs.ViewWorld.{IsViewOf, known_view};
 ghost use Rattle.uac_transcript.specs.Printing.{Prints};
 ghost use Rattle.uac_transcript.specs.Transcript.{says_answer, says_view};
 ghost use Rattle.uac_running.specs.RunningWorld.{RunningWorld};
-ghost use Rattle.uac_running.specs.RunningTransfers.{comes_back, element_named, outcome_of, set_sight, shown_sight, transfer};
+ghost use Rattle.uac_running.specs.RunningTransfers.{comes_back, element_named, outcome_of, shown_sight, transfer};
 ghost use Rattle.uac_running.specs.RunningTransfers.{after_transfer};
 ghost use Rattle.uac_running.specs.RunningTransfers.{with_break};
 ghost use Rattle.uac_running.specs.RunningTransfers as spec;
@@ -56,7 +55,10 @@ fn with_view(alloc: Global, device: Device) -> Result<Viewed, NoMemory>
     let read = View::read(alloc, &mut link);
     match read {
         Ok(view) => Ok(Viewed { device, view }),
-        Err(ViewFault::NoMemory) => Err(NoMemory),
+        Err(ViewFault::NoMemory) => {
+            device.let_go();
+            Err(NoMemory)
+        }
         Err(ViewFault::Broken) => unreachable!(),
     }
 }
@@ -66,6 +68,7 @@ pub fn fresh_view(alloc: Global, function: Function) -> Result<View, NoMemory>
     ensures { IfOk result (λ view. view ≡ known_view function.entities (initial_controls function.entities)) }
 {
     let viewed = fresh_viewed(alloc, function)?;
+    viewed.device.let_go();
     Ok(viewed.view)
 }
 

@@ -1,5 +1,6 @@
 -- The flags of used numbers and the latest setting say what the earlier interfaces do.
 use Rattle.std.proofs.Common.{◌≡◌, ◌≢◌, ℕ, ◌+◌, ◌<◌, Bool, true, false, ◌&&◌, ◌||◌, ◌⊎◌, not, eqb, List, [], ◌∷◌, length, get_or, set, replicate, filter_map, Option, Some, None, IsTrue, if◌then◌else◌, refl, sym, ap, ◌∙◌, subst, inl, inr, ⊎_elim, arith, eqb-true, eq-eqb, ne_eqb, get_or-set_same, get_or-set_other, length-set}
+use Rattle.std.specs.Prelude.{IfSome}
 use Rattle.std.specs.List.{AllByRecursion}
 use Rattle.std.proofs.lemmas.Bool.{cases_Bool, cases_eq, true≢false, false≢true, cond-true, cond-false, and_left, and_right, and_from, and_parts, or_from, or_parts, or_left, or_right, or_cases, not-true, not_from_true, not_from_false}
 use Rattle.std.proofs.lemmas.List.{get_or-replicate, length-replicate}
@@ -9,9 +10,18 @@ use Rattle.uac_descriptor.specs.declared.block.Block.TheVariants as variant
 use Rattle.uac_sentence.specs.declared.states.Latest.{Latest}
 use Rattle.uac_descriptor.specs.Classes.{is_streaming_interface}
 use Rattle.uac_sentence.specs.Grammar.{used_after, latest_after, continues, is_in_turn}
-pub use Rattle.uac_sentence.specs.Sentence.{HasSmallNumbers}
-use Rattle.uac_sentence.specs.Sentence.{is_of_function, Begins, Continues, InTurn, interface_of}
+use Rattle.uac_sentence.specs.Sentence.{is_of_function, Begins, Continues, InTurn, IsSoOf, interface_of}
 use Rattle.uac_sentence.proofs.GrammarLemmas.{TurnRun}
+
+-- the number of each interface is a byte
+abbrev pub HasSmallNumbers : List block.Block → Type 0
+HasSmallNumbers [] = Unit {0}
+HasSmallNumbers (b ∷ blocks) = IsSoOf (interface_of b) (λ i. (i.number < 256) × HasSmallNumbers blocks) (HasSmallNumbers blocks)
+
+-- so it is of one block
+pub small_alone : (b : block.Block) → IfSome (interface_of b) (λ i. i.number < 256) → HasSmallNumbers (b ∷ [])
+small_alone (variant.Interface i) small = (small, tt)
+small_alone _ small = tt
 
 -- an interface of the function among these has the number
 abbrev uses : ℕ → List interface.Interface → Bool

@@ -1,5 +1,6 @@
 -- The blocks of a sentence are well-formed.
 use Rattle.std.proofs.Common.{◌≡◌, ℕ, ◌+◌, ◌<◌, ◌≤◌, arith, length, get_or, drop, ◌++◌, append-nil, length-append, Bool, true, false, ◌&&◌, ◌||◌, not, List, [], ◌∷◌, Option, Some, None, if◌then◌else◌, ◌⊎◌, refl, sym, ap, ◌∙◌, subst, inl, inr}
+use Rattle.std.specs.Prelude.{IfSome}
 use Rattle.std.specs.Bool.{OnTrue}
 use Rattle.std.proofs.lemmas.Bool.{true≢false}
 use Rattle.uac_descriptor.specs.declared.context.Context.{Context}
@@ -21,13 +22,13 @@ use Rattle.uac_sentence.specs.declared.stages.OrderStage.{OrderStage}
 use Rattle.uac_sentence.specs.declared.stages.OrderStage.TheVariants.{Start, Due, Opening, Before, Announced}
 use Rattle.uac_sentence.specs.Grammar.{is_control, is_audio_interface, is_in_turn, used_after, latest_after}
 use Rattle.uac_sentence.specs.Letter.{letter_of, whole_letter, interface_letter, is_device, has_unknown_subtype, is_ordered_type, type_of}
-use Rattle.uac_sentence.specs.Sentence.{HasSmallNumbers, IsSentence, SpellsItself, spellings}
+use Rattle.uac_sentence.specs.Sentence.{IsSentence, SpellsItself, spellings}
 use Rattle.uac_sentence.specs.declared.states.Latest.{Latest}
 use Rattle.uac_sentence.specs.OrderStages.{next_stage, may_end}
 use Rattle.uac_sentence.specs.Values.{HasValues, has_wrong_value}
 use Rattle.uac_sentence.proofs.OrderStagesLemmas.{Goes, allows_goes}
 pub use Rattle.uac_sentence.proofs.SentenceTurnLemmas.{IsTurning}
-use Rattle.uac_sentence.proofs.SentenceTurnLemmas.{turning_step, turning_stops, turning_ends}
+use Rattle.uac_sentence.proofs.SentenceTurnLemmas.{HasSmallNumbers, small_alone, turning_step, turning_stops, turning_ends}
 use Rattle.uac_sentence.proofs.SentenceLemmas.{bytes_left, bytes_right, piece_of, small_numbers, spelt_bytes}
 use Rattle.uac_sentence.proofs.ValuesLemmas.{right_values, no_wrong_value}
 
@@ -43,10 +44,10 @@ kept_well context (variant.ClockSelector c) small short h = (h.0, omega (arith, 
 kept_well context (variant.TypeOne t) small short h = h
 kept_well context _ small short h = tt
 
-pub right_well : (context : Context) (b : block.Block) (wrong : Bool) → wrong ≡ has_wrong_value context b → HasSmallNumbers (b ∷ []) → length (spelling b) ≤ 255
-    → OnTrue (not wrong) (IsWellFormed context b)
+pub right_well : (context : Context) (b : block.Block) (wrong : Bool) → wrong ≡ has_wrong_value context b → IfSome (interface_of b) (λ i. i.number < 256)
+    → length (spelling b) ≤ 255 → OnTrue (not wrong) (IsWellFormed context b)
 right_well context b true is small short = tt
-right_well context b false is small short = kept_well context b small short (right_values context b (sym is))
+right_well context b false is small short = kept_well context b (small_alone b small) short (right_values context b (sym is))
 
 -- the length of a block that stands among bytes fits a byte
 short_block : (context : Context) (b : block.Block) → SpellsItself context b → AreBytes (spelling b) → length (spelling b) ≤ 255
@@ -271,15 +272,16 @@ control_ends xs i past h = absurd (subst (λ bs. BeginsWithControl (interfaces_i
 -- the numbers in turn
 
 pub turn_on : (used : List Bool) (latest : Option Latest) (xs : List block.Block) (i : ℕ) (b : block.Block) → i < length xs → b ≡ get_or xs i b
-    → HasSmallNumbers (b ∷ []) → is_in_turn used latest b ≡ true → IsTurning used latest xs (drop i xs)
+    → IfSome (interface_of b) (λ i. i.number < 256) → is_in_turn used latest b ≡ true → IsTurning used latest xs (drop i xs)
     → IsTurning (used_after used b) (latest_after latest b) xs (drop (i + 1) xs)
 turn_on used latest xs i b below is small turn t =
-    turning_step used latest xs b (drop (i + 1) xs) small turn (subst (IsTurning used latest xs) (rest_at xs i b below is) t)
+    turning_step used latest xs b (drop (i + 1) xs) (small_alone b small) turn (subst (IsTurning used latest xs) (rest_at xs i b below is) t)
 
 pub turn_stops : (used : List Bool) (latest : Option Latest) (xs : List block.Block) (i : ℕ) (b : block.Block) → i < length xs → b ≡ get_or xs i b
-    → HasSmallNumbers (b ∷ []) → is_in_turn used latest b ≡ false → IsTurning used latest xs (drop i xs) → InTurn [] (interfaces_in xs) → false ≡ true
+    → IfSome (interface_of b) (λ i. i.number < 256) → is_in_turn used latest b ≡ false → IsTurning used latest xs (drop i xs)
+    → InTurn [] (interfaces_in xs) → false ≡ true
 turn_stops used latest xs i b below is small out t h =
-    turning_stops used latest xs b (drop (i + 1) xs) small out (subst (IsTurning used latest xs) (rest_at xs i b below is) t) h
+    turning_stops used latest xs b (drop (i + 1) xs) (small_alone b small) out (subst (IsTurning used latest xs) (rest_at xs i b below is) t) h
 
 pub turn_ends : (used : List Bool) (latest : Option Latest) (xs : List block.Block) (i : ℕ) → length xs ≤ i → IsTurning used latest xs (drop i xs)
     → InTurn [] (interfaces_in xs)

@@ -1,5 +1,5 @@
 -- The sentence: which blocks the bytes of a descriptor are. USB 2.0, 9.4.3, 9.6.3 and 9.6.5; Audio Class 2.0, 4.
-use Rattle.std.specs.Prelude.{true, false, ◌≡◌, ℕ, ◌<◌, Bool, List, [], ◌∷◌, length, flat_map, filter_map, take_while, Option, Some, None}
+use Rattle.std.specs.Prelude.{true, false, ◌≡◌, ℕ, Bool, List, [], ◌∷◌, length, flat_map, filter_map, take_while, Option, Some, None}
 use Rattle.uac_descriptor.specs.declared.context.Context.{Context}
 use Rattle.uac_descriptor.specs.declared.context.Context.TheVariants as context
 use Rattle.uac_descriptor.specs.declared.block.Block as block
@@ -63,12 +63,8 @@ HasListTotal [] = Unit {0}
 HasListTotal (b ∷ blocks) =
     IsSoOf (as_header b) (λ h. size (b ∷ take_while (λ b. is_entity (letter_of b)) blocks) ≡ h.total) (HasListTotal blocks)
 
--- the number of each interface is a byte
-abbrev pub HasSmallNumbers : List block.Block → Type 0
-HasSmallNumbers [] = Unit {0}
-HasSmallNumbers (b ∷ blocks) = IsSoOf (interface_of b) (λ i. (i.number < 256) × HasSmallNumbers blocks) (HasSmallNumbers blocks)
-
--- the numbers are bytes, and these blocks are what they say, in the standard's order, with the totals and the values that they must have
+-- each number of the input is a byte, and these blocks are what the bytes say, in the standard's order, with the totals and the values that
+-- they must have
 pub record IsSentence (bytes : List ℕ) (blocks : List block.Block) : Type 0 where
   pub are_bytes : AreBytes bytes
   pub spelt : bytes ≡ spellings blocks

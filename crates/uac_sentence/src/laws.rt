@@ -49,8 +49,9 @@ pub fn first_fault_is_the_least_of_all(bytes: &[u8])
     ensures none { (first_fault bytes.now ≡ None) ↔ ((rule place : ℕ) → IsFault bytes.now rule place → ⊥) }
 {}
 
-/// The blocks of a sentence are well-formed: what chooses or mixes has a pin, formats and endpoints have numbers in range, the
-/// control interface comes first, and streaming interfaces and their settings are numbered in turn.
+/// The blocks of a sentence are well-formed: the numbers of interfaces are bytes, what chooses or mixes has 1 to 248 pins, formats
+/// and endpoints have numbers in range, the control interface comes first, and streaming interfaces and their settings are
+/// numbered in turn.
 pub fn sentences_are_well_formed()
     ensures { (bytes : List ℕ) (blocks : List Block) → IsSentence bytes blocks → AreWellFormed blocks }
 {}

@@ -1,11 +1,11 @@
 // Whether blocks are well-formed.
-ghost use Rattle.std.specs.Prelude.{◌≡◌, ◌↔◌, ℕ, List, [], ◌∷◌, not, true};
+ghost use Rattle.std.specs.Prelude.{◌≡◌, ◌↔◌, ◌<◌, ℕ, List, [], not, true, IfSome};
 ghost use Rattle.std.specs.Bool.{OnTrue};
 ghost use Rattle.uac_descriptor.specs.Contexts.{EachIn};
-ghost use Rattle.uac_descriptor.specs.BlockTurns.{BeginsWithControl, InTurn, interfaces_in};
+ghost use Rattle.uac_descriptor.specs.BlockTurns.{BeginsWithControl, InTurn, interface_of, interfaces_in};
 ghost use Rattle.uac_descriptor.specs.WellFormed.{AreWellFormed, IsWellFormed};
 ghost use Rattle.uac_descriptor.specs.declared.context.Context.TheVariants as context;
-ghost use Rattle.uac_sentence.specs.Sentence.{HasSmallNumbers, IsSentence};
+ghost use Rattle.uac_sentence.specs.Sentence.{IsSentence};
 ghost use Rattle.uac_sentence.specs.Values.{HasValues, has_wrong_value};
 
 use crate::letters::Letter;
@@ -41,13 +41,14 @@ fn have_right_values(blocks: &[Block]) -> bool
     true
 }
 
-// Whether a block's values are allowed; that its length and the number of an interface are bytes, its type keeps.
+// Whether a block's values are allowed. That its length and the number of an interface are bytes, its type keeps.
 fn is_well_formed(context: Context, block: &Block) -> bool
     ensures well_formed { OnTrue result (IsWellFormed context block.now) }
     ensures exact { result ≡ not (has_wrong_value context block.now) }
 {
     has_spelling(block);
-    has_flag(block) && !has_wrong_value(context, block)
+    keep_number(block);
+    !has_wrong_value(context, block)
 }
 
 fn begin_with_control(blocks: &[Block]) -> bool
@@ -71,7 +72,8 @@ fn are_in_turn(blocks: &[Block]) -> bool
     let mut used = [false; 256];
     let mut latest = None;
     for block in blocks {
-        if !has_flag(block) || !is_in_turn(&used, latest, block) {
+        keep_number(block);
+        if !is_in_turn(&used, latest, block) {
             return false;
         }
         use_number(&mut used, block);
@@ -80,13 +82,16 @@ fn are_in_turn(blocks: &[Block]) -> bool
     true
 }
 
-// The number of an interface has a flag.
-fn has_flag(block: &Block) -> bool
-    ensures small { HasSmallNumbers (block.now ∷ []) }
-    ensures has { result ≡ true }
+// The type `Block` keeps that the number of an interface is a byte.
+fn keep_number(block: &Block)
+    ensures { IfSome (interface_of block.now) (λ i. i.number < 256) }
 {
-    let Block::Interface(interface) = block else {
-        return true;
-    };
-    usize::from(interface.number) < 256
+    if let Block::Interface(interface) = block {
+        keep_byte(interface.number);
+    }
 }
+
+// A number of this type is a byte.
+fn keep_byte(number: u8)
+    ensures { number < 256 }
+{}

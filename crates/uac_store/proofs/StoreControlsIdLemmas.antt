@@ -23,7 +23,7 @@ pub small_named : (all : List Entity) (id : ℕ) (e : Entity) → IsKeyed all �
     → IsSmall e.kind (sum (pins_of all e)) e.cluster.channels
 small_named all id e keyed is = all_named (λ x. IsSmall x.kind (sum (pins_of all x)) x.cluster.channels) all id e keyed.small is
 
--- an entity of a sound function has no more pins than fit a block
+-- an entity of a sound function has at most 248 pins
 pub few_pins : (function : FunctionFields) (id : ℕ) (e : Entity) → IsSoundFunction function → entity_by_id function.entities id ≡ Some e
     → length e.sources ≤ 248
 few_pins function id e sound is = (all_named HasPins function.entities id e (have_pins function sound) is).1

@@ -130,6 +130,10 @@ abbrev pub is_one_to : ℕ → ℤ → Bool
 is_one_to most (pos n) = nat_lt 0 n && nat_le n most
 is_one_to most _ = false
 
+-- the number of a pin, from 1 (4.7.2.2, 4.7.2.7; 5.2.5.2.1, 5.2.5.6.1); profile: it has one byte
+abbrev pub is_pin : ℕ → ℤ → Bool
+is_pin pins v = is_one_to 255 v && is_one_to pins v
+
 abbrev pub is_switch : ℤ → Bool
 is_switch (pos n) = nat_lt n 2
 is_switch _ = false
@@ -144,12 +148,12 @@ is_frequency attributes _ = false
 abbrev pub takes_as : Control → ℕ → ℕ → ℤ → Bool
 takes_as control.SamplingFrequency pins attributes v = is_frequency attributes v
 takes_as control.ClockValid pins attributes v = false
-takes_as control.ClockSelector pins attributes v = is_one_to pins v
+takes_as control.ClockSelector pins attributes v = is_pin pins v
 takes_as control.Numerator pins attributes v = is_one_to 8 v
 takes_as control.Denominator pins attributes v = is_one_to 8 v
 takes_as control.Connector pins attributes v = false
 takes_as control.MixerNode pins attributes v = is_some (gain_of v)
-takes_as control.Selector pins attributes v = is_one_to pins v
+takes_as control.Selector pins attributes v = is_pin pins v
 takes_as control.Mute pins attributes v = is_switch v
 takes_as control.Volume pins attributes v = is_some (gain_of v)
 takes_as control.Enable pins attributes v = is_switch v

@@ -1,5 +1,5 @@
 // The values that controls can take.
-ghost use Rattle.std.specs.Prelude.{◌≡◌, ◌%◌, ◌<◌, ◌≤◌, ◌^◌, IsSome, Some, is_some, length, map, nat_lt, pos, negsuc, sum};
+ghost use Rattle.std.specs.Prelude.{◌≡◌, ◌%◌, ◌<◌, ◌≤◌, ◌^◌, IsSome, Some, is_some, length, map, nat_lt, sum};
 ghost use Rattle.std.specs.List.{All};
 ghost use Rattle.std.specs.Option.{option_map};
 ghost use Rattle.uac_gain.specs.Gain.{gain_of};
@@ -150,12 +150,11 @@ fn each_alone(rates: &[u32]) -> Ranges
 
 /// Whether a change gives its control a value that is legal: one that the control takes, and where it is a clock
 /// entity's, one under which every clock entity has a rate. It takes no memory.
-#[tactic(auto, unfolding(crate::specs::StoreValues::is_legal, crate::specs::StoreControls::takes), using(crate::proofs::StoreControlsIdLemmas::few_pins))]
+#[tactic(auto, unfolding(crate::specs::StoreValues::is_legal, crate::specs::StoreControls::takes))]
 pub(crate) fn is_legal(function: &Function, store: &Store, change: Change) -> bool
     requires { IsSome (value_of store.now change.key) }
     ensures { result ≡ spec.is_legal function.now.entities store.now change.key change.value }
 {
-    functions_are_sound(function);
     match function.entity(change.key.entity) {
         Some(entity) => {
             takes(entity, change.key.selector, change.value)
@@ -168,7 +167,6 @@ pub(crate) fn is_legal(function: &Function, store: &Store, change: Change) -> bo
 // Whether an entity's control takes a value (profile).
 #[tactic(auto, unfolding(crate::specs::StoreControls::takes_on))]
 fn takes(entity: &Entity, selector: u8, value: i32) -> bool
-    requires { length entity.now.sources ≤ 248 }
     ensures { result ≡ controls.takes_on selector value entity.now }
 {
     match control_of(entity.kind, selector) {
@@ -178,14 +176,11 @@ fn takes(entity: &Entity, selector: u8, value: i32) -> bool
 }
 
 fn takes_as(control: Control, entity: &Entity, value: i32) -> bool
-    requires { length entity.now.sources ≤ 248 }
     ensures { result ≡ table.takes_as control (length entity.now.sources) entity.now.attributes value }
 {
     match control {
         Control::SamplingFrequency => is_frequency(entity.attributes, value),
-        Control::ClockSelector | Control::Selector => {
-            is_one_to(entity.sources.as_slice().len() as u8, value)
-        }
+        Control::ClockSelector | Control::Selector => { is_pin(entity.sources.as_slice(), value) }
         Control::Numerator | Control::Denominator => is_one_to(MOST_TIMES, value),
         Control::MixerNode | Control::Volume => is_volume(value),
         Control::Mute | Control::Enable => is_switch(value),
@@ -199,6 +194,16 @@ fn is_frequency(attributes: u8, value: i32) -> bool
     match u32::try_from(value) {
         Ok(hertz) if is_fixed(attributes) => hertz == FIXED,
         Ok(hertz) => RATES.contains(&hertz),
+        Err(_) => false,
+    }
+}
+
+// Whether a value is the number of one of these pins, counted from 1, in one byte (profile).
+fn is_pin(sources: &[u8], value: i32) -> bool
+    ensures { result ≡ table.is_pin (length sources.now) value }
+{
+    match u8::try_from(value) {
+        Ok(pin) => pin >= 1 && usize::from(pin) <= sources.len(),
         Err(_) => false,
     }
 }

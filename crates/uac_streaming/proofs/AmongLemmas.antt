@@ -6,7 +6,7 @@ use Rattle.std.proofs.lemmas.Map.Keys.{IsDistinct-cons, IsDistinct-head, IsDisti
 use Rattle.uac_entities.specs.declared.stream.StreamInterface.{StreamInterface}
 use Rattle.uac_topology.specs.Function.{FunctionFields}
 use Rattle.uac_alt.proofs.AltStreamsLemmas.{all_found}
-use Rattle.uac_device.proofs.StreamAskedLemmas.{has_number}
+use Rattle.uac_request.proofs.FunctionInterfaceLemmas.{has_number}
 use Rattle.uac_streaming.specs.StreamingWorld.{numbers}
 
 -- a number stands in a list

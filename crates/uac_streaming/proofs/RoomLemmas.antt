@@ -46,8 +46,8 @@ few_in_all service microframes ticks serves = each_interval (λ s. ticks ≤ 27 
 
 -- ---- a stream within a microframe
 
--- so many of its domain's ticks are still to be played. It is tight while the zeros for all ticks of its domain since it was last due have to fit:
--- until its packet came. Whether that is lost is known before
+-- so many of its domain's ticks are still to be played. It is tight while the zeros for all ticks of its domain since it was last due have to
+-- fit: until its packet came. Whether that is lost is known before
 pub record IsWithin (loses : Bool) (left : ℕ) (o : OutStream) : Type 0 where
   pub tight : Bool
   pub serves : IsInterval o.stream.service

@@ -96,6 +96,9 @@ impl Streaming {
         })
     }
 
+    /// Lets all go that the host's streams hold. A caller that ends so needs no proof of its own of how each part is let go.
+    pub fn let_go(self) {}
+
     /// What the streams of the interface at an index met, in block order.
     pub fn stream_counts(&self, index: usize) -> StreamCounts
         requires { index < length self.now.met }

@@ -13,7 +13,7 @@ use Rattle.uac_entities.specs.declared.entity.EntityKind.{EntityKind}
 use Rattle.uac_entities.specs.declared.entity.EntityKind.TheVariants as kind
 use Rattle.uac_topology_rules.specs.Clusters.{cluster_of, cluster_step, with_own_clusters, takes_over}
 use Rattle.uac_topology_rules.specs.Links.{is_clock, signal_links, signal_sources}
-use Rattle.uac_topology_rules.specs.Rules.{breaks_u3, breaks_u4, breaks_u6, breaks_u8, has_own_cluster, is_silent}
+use Rattle.uac_topology_rules.specs.Rules.{breaks_u3, breaks_u4, breaks_u6, breaks_u8, has_own_cluster, is_output, is_silent}
 use Rattle.uac_topology_rules.specs.Table.{at, first_index_of, kind_of, nothing, index_of}
 use Rattle.uac_topology_rules.proofs.ClustersLemmas.{cluster_is}
 use Rattle.uac_topology_rules.proofs.LinksLemmas.{signal_links-at}
@@ -56,30 +56,32 @@ taker kind.ClockSource t = absurd (cc)
 taker kind.ClockSelector t = absurd (cc)
 taker kind.ClockMultiplier t = absurd (cc)
 
-module _ (es : List Entity) (h : KeepsRules es) (have : HavePins es) where
-  -- a source is an entity, and no clock
-  source_there : (k i : ℕ) → k < length es → i < length (signal_sources (at es k))
-      → (index_of es (get_or (signal_sources (at es k)) i 0) < length es)
-      × (is_clock (at es (index_of es (get_or (signal_sources (at es k)) i 0))).kind ≡ false)
-  unfolding breaks_u3 breaks_u4 kind_of
-  source_there k i below inside =
-      let s = get_or (signal_sources (at es k)) i 0 in
-      by s (first_index_of es s) refl
-      (none_at (λ id. is_none (kind_of es id)) (signal_sources (at es k)) i 0 inside (h.u3 k below))
-      (none_at (λ id. is_silent (kind_of es id)) (signal_sources (at es k)) i 0 inside (h.u4 k below))
-    where
-      by : (s : ℕ) (o : Option ℕ) → first_index_of es s ≡ o → is_none (option_map (λ p. (at es p).kind) (first_index_of es s)) ≡ false
-          → is_silent (option_map (λ p. (at es p).kind) (first_index_of es s)) ≡ false
-          → (index_of es s < length es) × (is_clock (at es (index_of es s)).kind ≡ false)
-      by s None e some loud =
-          let no : true ≡ false = ap (λ o. is_none (option_map (λ (p : ℕ). (at es p).kind) o)) (sym e) ∙ some in absurd (cc)
-      by s (Some p) e some loud =
-          let is = found_is es s p (sym e) in
-          let silent = or_parts _ _ (ap (λ o. is_silent (option_map (λ (q : ℕ). (at es q).kind) o)) (sym e) ∙ loud) in (
-            omega (arith, is.0, is.1),
-            ap (λ (q : ℕ). is_clock (at es q).kind) is.1 ∙ silent.0,
-          )
+-- a source of an entity is an entity that puts out a signal: no clock entity and no output terminal
+pub source_there : (es : List Entity) → KeepsRules es → (k i : ℕ) → k < length es → i < length (signal_sources (at es k))
+    → (index_of es (get_or (signal_sources (at es k)) i 0) < length es)
+    × (is_clock (at es (index_of es (get_or (signal_sources (at es k)) i 0))).kind ≡ false)
+    × (is_output (at es (index_of es (get_or (signal_sources (at es k)) i 0))).kind ≡ false)
+unfolding breaks_u3 breaks_u4 kind_of
+source_there es h k i below inside =
+    let s = get_or (signal_sources (at es k)) i 0 in
+    by s (first_index_of es s) refl
+    (none_at (λ id. is_none (kind_of es id)) (signal_sources (at es k)) i 0 inside (h.u3 k below))
+    (none_at (λ id. is_silent (kind_of es id)) (signal_sources (at es k)) i 0 inside (h.u4 k below))
+  where
+    by : (s : ℕ) (o : Option ℕ) → first_index_of es s ≡ o → is_none (option_map (λ p. (at es p).kind) (first_index_of es s)) ≡ false
+        → is_silent (option_map (λ p. (at es p).kind) (first_index_of es s)) ≡ false
+        → (index_of es s < length es) × (is_clock (at es (index_of es s)).kind ≡ false) × (is_output (at es (index_of es s)).kind ≡ false)
+    by s None e some loud =
+        let no : true ≡ false = ap (λ o. is_none (option_map (λ (p : ℕ). (at es p).kind) o)) (sym e) ∙ some in absurd (cc)
+    by s (Some p) e some loud =
+        let is = found_is es s p (sym e) in
+        let silent = or_parts _ _ (ap (λ o. is_silent (option_map (λ (q : ℕ). (at es q).kind) o)) (sym e) ∙ loud) in (
+          omega (arith, is.0, is.1),
+          ap (λ (q : ℕ). is_clock (at es q).kind) is.1 ∙ silent.0,
+          ap (λ (q : ℕ). is_output (at es q).kind) is.1 ∙ silent.1,
+        )
 
+module _ (es : List Entity) (h : KeepsRules es) (have : HavePins es) where
   -- the links of an entity, by its sources
   sources_at : (k : ℕ) → k < length es → is_clock (at es k).kind ≡ false → links (signal_links es) k ≡ map (index_of es) (at es k).sources
   unfolding signal_sources
@@ -111,7 +113,7 @@ module _ (es : List Entity) (h : KeepsRules es) (have : HavePins es) where
       there =
           subst (λ (sources : List ℕ). (i : ℕ) → i < length sources
           → (index_of es (get_or sources i 0) < length es) × (is_clock (at es (index_of es (get_or sources i 0))).kind ≡ false))
-          (ap (λ (b : Bool). if b then [] else (at es k).sources) signal) (λ i inside. source_there k i below inside)
+          (ap (λ (b : Bool). if b then [] else (at es k).sources) signal) (λ i inside. let found = source_there es h k i below inside in (found.0, found.1))
 
       taken_over : takes_over (at es k).kind ≡ true
           → cluster_of es k ≡ option_map_or (cluster_of es) (slice_get (links (signal_links es) k) 0) no_cluster

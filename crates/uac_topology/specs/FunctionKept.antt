@@ -1,5 +1,6 @@
--- What a function keeps of the sentence that described it: Audio Class 2.0, 4.1, 4.7.2 and 4.9; Audio Data Formats 2.0,
--- 2.3.1.6; USB 2.0, 9.6.5 and 9.6.6.
+-- What a function keeps of the sentence that described it, and of the rules of topology: Audio Class 2.0, 4.1, 4.7.2 and 4.9; Audio
+-- Data Formats 2.0, 2.3.1.6; USB 2.0, 9.6.5 and 9.6.6. Profile: a cluster has at most 32 channels, a streaming interface at most 16
+-- settings.
 use Rattle.std.specs.Prelude.{◌≡◌, ℕ, ◌<◌, ◌≤◌, Bool, true, false, nat_eq, List, ◌∷◌, length, map, Some}
 use Rattle.std.specs.List.{All, IsDistinct, range_with_len}
 use Rattle.uac_descriptor.specs.BlockFields.{IsHighSpeed, IsTypeOneFormat}
@@ -28,7 +29,7 @@ has_pins kind.Selector = true
 has_pins kind.Feature = true
 has_pins kind.Effect = true
 
--- an entity that takes a clock or a signal has a pin, and none has more than fit a block
+-- an entity that takes a clock or a signal has a pin, and no entity has more than 248
 abbrev pub HasPins : Entity → Type 0
 HasPins e = (has_pins e.kind ≡ true → 1 ≤ length e.sources) × (length e.sources ≤ 248)
 
@@ -61,8 +62,8 @@ abbrev pub AreLinks : FunctionFields → Type 0
 AreLinks function =
     All (λ s. All (λ t. (g : General) → t.general ≡ Some g → IsLink function.entities s.terminal g.link) s.settings) function.streams
 
--- the control interface and the streaming interfaces have different numbers, which are bytes, and the settings of each, at most 16,
--- are numbered from 0
+-- the control interface and the streaming interfaces have different numbers, which are bytes, and the settings of each streaming
+-- interface, at most 16, are numbered from 0
 pub record AreNumbered (function : FunctionFields) : Type 0 where
   pub different : IsDistinct nat_eq (function.control_interface ∷ map (λ s. s.number) function.streams)
   pub control : function.control_interface < 256

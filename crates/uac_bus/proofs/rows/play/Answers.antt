@@ -32,3 +32,15 @@ returns-in-Deviate-clause-does g c =
     c.deviate.ensures.does
     in
     λ r s. rw c.in-Deviate.is (does _ r _ s)
+
+pub returns-in-Get-clause-does : goal.returns-in-Get-clause-does
+returns-in-Get-clause-does g c = λ r s. rw c.in-Get.is (c.get.ensures.does _ r s)
+
+pub returns-in-Show-clause-does : goal.returns-in-Show-clause-does
+returns-in-Show-clause-does g c = λ r s. rw c.in-Show.is (c.show.ensures.does _ r s)
+
+pub returns-in-Run-clause-does : goal.returns-in-Run-clause-does
+returns-in-Run-clause-does g c = λ r s. rw c.in-Run.is (c.run.ensures.does r s)
+
+pub returns-in-Report-clause-does : goal.returns-in-Report-clause-does
+returns-in-Report-clause-does g c = λ r s. rw c.in-Report.is (c.report.ensures.does r s)

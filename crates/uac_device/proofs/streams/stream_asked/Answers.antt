@@ -5,7 +5,7 @@ use Rattle.uac_entities.specs.declared.stream.StreamInterface.{StreamInterface}
 use Rattle.uac_alt.specs.AltStreams.{stream_of}
 use Rattle.uac_request.specs.Requests.{rate_at}
 use Rattle.uac_device.specs.DeviceWorld.{stream_in_setting}
-use Rattle.uac_device.proofs.StreamAskedLemmas.{has_number}
+use Rattle.uac_request.proofs.FunctionInterfaceLemmas.{has_number}
 use Rattle.uac_device.proofs.streams.stream_asked.Goals as goal
 
 pub returns-in-Some : goal.returns-in-Some

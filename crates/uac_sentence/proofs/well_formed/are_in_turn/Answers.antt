@@ -1,9 +1,8 @@
-use Rattle.std.proofs.Common.{sym, ◌∙◌, refl}
+use Rattle.std.proofs.Common.{sym, refl}
 use Rattle.std.proofs.lemmas.Bool.{false≢true}
 use Rattle.uac_sentence.proofs.SentenceTurnLemmas.{turning_start}
 use Rattle.uac_sentence.proofs.SentenceWellFormedLemmas.{turn_on, turn_stops, turn_ends}
 use Rattle.uac_sentence.proofs.well_formed.are_in_turn.Goals as goal
-use Rattle.uac_sentence.proofs.well_formed.are_in_turn.Goals.{then-not-has_flag-via-then-not-has_flag, then-not-has_flag-via-else-not-has_flag+then-not-is_in_turn}
 
 pub loop-block-init : goal.loop-block-init
 loop-block-init c = turning_start c.args.blocks.now
@@ -12,7 +11,7 @@ pub loop-block-preserved : goal.loop-block-preserved
 loop-block-preserved c =
     rw (c.use_number.ensures, c.latest_after-latest.ensures)
     (turn_on c.loop-block.used c.loop-block.latest c.args.blocks.now c.loop-block.block-index c.block-item.result c.loop-block-test.true c.block-item.is
-    c.has_flag.ensures.small (sym c.if-not-is_in_turn.ensures) c.loop-block.invariant)
+    c.keep_number.ensures (sym c.if-not-is_in_turn.ensures) c.loop-block.invariant)
 
 pub returns : goal.returns
 returns c = (
@@ -20,14 +19,9 @@ returns c = (
   λ all. refl,
 )
 
--- the number of an interface always has a flag
-pub returns-then-not-has_flag : goal.returns-then-not-has_flag
-returns-then-not-has_flag c = (
+pub returns-then-not-is_in_turn : goal.returns-then-not-is_in_turn
+returns-then-not-is_in_turn c = (
   λ e. absurd (false≢true e),
-  λ all. elim c.then-not-has_flag.branch [
-    | then-not-has_flag-via-then-not-has_flag w ↦ sym w.if-not-has_flag.true ∙ c.has_flag.ensures.has
-    | then-not-has_flag-via-else-not-has_flag+then-not-is_in_turn w ↦
-        turn_stops c.loop-block.used c.loop-block.latest c.args.blocks.now c.loop-block.block-index c.block-item.result c.loop-block-test.true c.block-item.is
-        c.has_flag.ensures.small (sym w.if-not-is_in_turn.ensures) c.loop-block.invariant all
-  ],
+  λ all. turn_stops c.loop-block.used c.loop-block.latest c.args.blocks.now c.loop-block.block-index c.block-item.result c.loop-block-test.true c.block-item.is
+      c.keep_number.ensures (sym c.if-not-is_in_turn.ensures) c.loop-block.invariant all,
 )
