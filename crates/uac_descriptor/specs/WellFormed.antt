@@ -9,8 +9,8 @@ use Rattle.uac_descriptor.specs.declared.context.Context.TheVariants as context
 use Rattle.uac_descriptor.specs.declared.block.Block as block
 use Rattle.uac_descriptor.specs.declared.block.Block.TheVariants as variant
 
--- what chooses or mixes has a pin, and at most 248: a block has at most 255 bytes, of which a selector or a clock selector has 7 besides its
--- pins, and a mixer more (Audio Class 2.0, bLength in 4.7.2.2, 4.7.2.6 and 4.7.2.7)
+-- what chooses or mixes has a pin, and at most 248: a block has at most 255 bytes, of which a selector or a clock selector has 7 besides
+-- its pins, and a mixer more (Audio Class 2.0, bLength in 4.7.2.2, 4.7.2.6 and 4.7.2.7)
 abbrev pub ArePins : List ℕ → Type 0
 ArePins sources = (length sources ≢ 0) × (length sources ≤ 248)
 

@@ -1,5 +1,5 @@
 -- The frames on the wires are those of the world.
-use Rattle.std.proofs.Common.{◌≡◌, ◌∙◌, sym, refl, ap, subst, ℕ, zero, suc, ◌<◌, ◌==◌, Bool, true, false, if◌then◌else◌, ℤ, List, [], ◌∷◌, Option, Some, None, length, get_or, map, position, inl, inr, unwrap_or}
+use Rattle.std.proofs.Common.{◌≡◌, ◌∙◌, sym, refl, ap, subst, ℕ, zero, suc, ◌<◌, ◌==◌, Bool, true, false, if◌then◌else◌, ℤ, List, [], ◌∷◌, Option, Some, None, length, get_or, map, inl, inr, unwrap_or}
 use Rattle.std.specs.List.{find}
 use Rattle.std.specs.Option.{option_and_then, option_map}
 use Rattle.std.proofs.lemmas.Bool.{and_parts, eq-eqb, eqb-true, ne_eqb}
@@ -9,7 +9,7 @@ use Rattle.uac_entities.specs.declared.entity.Entity.{Entity}
 use Rattle.uac_topology_rules.specs.Clusters.{is_input}
 use Rattle.uac_topology_rules.specs.Links.{is_clock, signal_sources}
 use Rattle.uac_topology_rules.specs.Rules.{is_output}
-use Rattle.uac_topology_rules.specs.Table.{at, index_of}
+use Rattle.uac_topology_rules.specs.Table.{at, index_of, first_index_of}
 use Rattle.uac_topology_rules.proofs.ListFindLemmas.{position_is, position-below}
 use Rattle.uac_topology_rules.proofs.SignalsLemmas.{map_same}
 use Rattle.uac_topology_rules.proofs.TableIdLemmas.{at_read}
@@ -301,14 +301,14 @@ played_nowhere device w id stands other =
     (ap (λ (f : FunctionFields). is_output_jack (entity f.entities id)) (sym stands.function) ∙ other))
 
 -- an entity that is found by its id, and an id that is not found
-pub entity_found : (entities : List Entity) (id index : ℕ) (e : Entity) → position (λ e. e.id == id) entities ≡ Some index → e ≡ get_or entities index e
+pub entity_found : (entities : List Entity) (id index : ℕ) (e : Entity) → first_index_of entities id ≡ Some index → e ≡ get_or entities index e
     → e ≡ entity entities id
-unfolding entity index_of
+unfolding entity index_of first_index_of
 entity_found entities id index e found item =
     let is = position_is (λ (e : Entity). e.id == id) entities index found in at_read entities index e is.0 item ∙ ap (at entities) (sym is.1)
 
-pub jack_nowhere : (entities : List Entity) (id : ℕ) → position (λ e. e.id == id) entities ≡ None → false ≡ is_output_jack (entity entities id)
-unfolding index_of
+pub jack_nowhere : (entities : List Entity) (id : ℕ) → first_index_of entities id ≡ None → false ≡ is_output_jack (entity entities id)
+unfolding index_of first_index_of
 jack_nowhere entities id none =
     elim (index_or_none entities id) [
       | inl below ↦

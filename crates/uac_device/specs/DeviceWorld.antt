@@ -1,6 +1,6 @@
 -- The device's part of the world: what it keeps, with the whole past of its clocks, and what each event does to it.
 -- Profile: the events and their order; the terms are those of Audio Class 2.0, 3.13.
-use Rattle.std.specs.Prelude.{ℕ, ◌==◌, ◌&&◌, not, Bool, false, true, if◌then◌else◌, ℤ, pos, List, [], ◌∷◌, ◌++◌, map, filter}
+use Rattle.std.specs.Prelude.{ℕ, ◌==◌, ◌&&◌, not, Bool, false, if◌then◌else◌, ℤ, pos, List, [], ◌∷◌, ◌++◌, map, filter}
 use Rattle.std.specs.Prelude.{length, Option, Some, None, IfSome, unwrap_or}
 use Rattle.std.specs.List.{fold, find, list_any}
 use Rattle.std.specs.Option.{option_and_then, option_map_or}

@@ -16,7 +16,8 @@ use Rattle.uac_units.specs.declared.jobs.UnitKind.{UnitKind}
 use Rattle.uac_units.specs.declared.jobs.UnitKind.TheVariants as unit
 use Rattle.uac_graph.specs.GraphControls.{Controls, control_value, feature_gain, pin_of, volume_gain}
 use Rattle.uac_graph.specs.Fitness.{FitsPins, IsSignalGraph}
-use Rattle.uac_graph.specs.Jobs.{AreFirstJobs, AreJobs, AreSameBut, HasJob, IsAskable, IsJob, gain_at, gain_count, pin_at, unit_of}
+use Rattle.uac_graph.specs.Jobs.{AreFirstJobs, AreJobs, AreSameBut, HasJob, IsAskable, IsJob, gain_at, gain_count, pin_at}
+use Rattle.uac_graph.specs.Needs.{unit_of}
 use Rattle.uac_graph.proofs.JobsMeaningLemmas.{few_pins, range_same}
 
 -- ---- one job

@@ -17,7 +17,8 @@ use Rattle.uac_units.specs.declared.jobs.UnitKind.TheVariants as unit
 use Rattle.uac_units.specs.Rendering.{FitsKind, FitsNumbers, in_a_row, input, pins_sample, job_samples}
 use Rattle.uac_units.proofs.RenderingLemmas.{selector-in_a_row, feature-in_a_row, effect-in_a_row}
 use Rattle.uac_graph.specs.GraphControls.{Controls, chosen_pin, control_value, feature_gain, node_gain, pin_of}
-use Rattle.uac_graph.specs.Jobs.{FitsFrames, HasJob, IsJob, gain_at, gain_count, unit_of}
+use Rattle.uac_graph.specs.Jobs.{FitsFrames, HasJob, IsJob, gain_at, gain_count}
+use Rattle.uac_graph.specs.Needs.{unit_of}
 use Rattle.uac_graph.specs.Meaning.{frame_of, sample_of}
 use Rattle.uac_graph.specs.Wiring.{Frames, frame_on}
 use Rattle.uac_topology_rules.proofs.SignalsLemmas.{map_same}

@@ -14,9 +14,9 @@ use Rattle.uac_units.specs.declared.jobs.UnitKind.{UnitKind}
 use Rattle.uac_units.specs.Rendering.{FitsKind, in_a_row, job_samples}
 use Rattle.uac_graph.specs.GraphControls.{Controls}
 use Rattle.uac_graph.specs.Fitness.{IsSignalGraph}
-use Rattle.uac_graph.specs.Jobs.{AreJobs, HasJob, unit_of}
+use Rattle.uac_graph.specs.Jobs.{AreJobs, HasJob}
 use Rattle.uac_graph.specs.Meaning.{frame_of}
-use Rattle.uac_graph.specs.Needs.{unit_count}
+use Rattle.uac_graph.specs.Needs.{unit_count, unit_of}
 use Rattle.uac_graph.specs.Tasks.{work_by, work_of}
 use Rattle.uac_graph.specs.Wiring.{AreWiresOf, Frames, frame_on, samples_on}
 use Rattle.uac_graph.specs.declared.tasks.Work.TheVariants.{Pass, Render, Ask}

@@ -1,5 +1,5 @@
 -- What the rules of an audio function's topology make sure of for its signal graph.
-use Rattle.std.specs.Prelude.{◌≡◌, ℕ, ◌*◌, ◌<◌, ◌≤◌, false, if◌then◌else◌, List, [], ◌∷◌, Option, Some, None, length, sum}
+use Rattle.std.specs.Prelude.{◌≡◌, ℕ, ◌<◌, ◌≤◌, false, if◌then◌else◌, List, [], ◌∷◌, Option, Some, None, length, sum}
 use Rattle.std.specs.List.{All}
 use Rattle.uac_walk.specs.Walk.{has_walk}
 use Rattle.uac_entities.specs.declared.entity.Entity.{Entity}
@@ -8,6 +8,7 @@ use Rattle.uac_entities.specs.declared.entity.EntityKind.TheVariants as kind
 use Rattle.uac_topology_rules.specs.Links.{is_clock, signal_sources, signal_links}
 use Rattle.uac_topology_rules.specs.Rules.{is_output}
 use Rattle.uac_topology_rules.specs.Table.{at, index_of}
+use Rattle.uac_store.specs.ControlTable.{IsSmall}
 use Rattle.uac_store.specs.StoreControls.{pins_of}
 use Rattle.uac_graph.specs.Meaning.{entity}
 
@@ -18,7 +19,7 @@ wire_channels entities id = if is_clock (entity entities id).kind then None else
 -- the pins of an entity of a kind fit its channels: a mixer has at most 256 inputs and 256 nodes, a selector has a pin, and its
 -- pins have its channels and at most 256 together, and the one source of any other has its channels
 abbrev pub FitsPins : EntityKind → ℕ → List ℕ → Type 0
-FitsPins kind.Mixer channels pins = (sum pins ≤ 256) × (sum pins * channels ≤ 256)
+FitsPins kind.Mixer channels pins = IsSmall kind.Mixer (sum pins) channels
 FitsPins kind.Selector channels pins = (sum pins ≤ 256) × (0 < length pins) × All (λ p. p ≡ channels) pins
 FitsPins kind.Feature channels pins = pins ≡ channels ∷ []
 FitsPins kind.Effect channels pins = pins ≡ channels ∷ []

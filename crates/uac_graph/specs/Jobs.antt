@@ -1,42 +1,23 @@
 -- What a unit is asked to render, by its controls.
-use Rattle.std.specs.Prelude.{◌≡◌, ◌==◌, ◌<◌, ◌≤◌, ℕ, ◌+◌, ◌*◌, ◌/◌, ◌%◌, Bool, true, false, if◌then◌else◌, ℤ, List, Option, Some, None}
+use Rattle.std.specs.Prelude.{◌≡◌, ◌==◌, ◌<◌, ◌≤◌, ℕ, ◌+◌, ◌*◌, ◌/◌, ◌%◌, ◌||◌, Bool, true, false, if◌then◌else◌, ℤ, List, Some}
 use Rattle.std.specs.Prelude.{map, length, get_or, sum}
 use Rattle.std.specs.List.{range_with_len}
 use Rattle.uac_entities.specs.declared.entity.Entity.{Entity}
 use Rattle.uac_entities.specs.declared.entity.EntityKind.{EntityKind}
-use Rattle.uac_entities.specs.declared.entity.EntityKind.TheVariants as kind
 use Rattle.uac_units.specs.declared.jobs.Job.{Job}
 use Rattle.uac_units.specs.declared.jobs.UnitKind.{UnitKind}
 use Rattle.uac_units.specs.declared.jobs.UnitKind.TheVariants as unit
 use Rattle.uac_topology_rules.specs.Links.{is_clock}
+use Rattle.uac_topology_rules.specs.Rules.{is_output}
 use Rattle.uac_topology_rules.specs.Table.{at}
 use Rattle.uac_store.specs.StoreControls.{pins_of}
 use Rattle.uac_graph.specs.GraphControls.{Controls, feature_gain, node_gain, chosen_pin}
 use Rattle.uac_graph.specs.Fitness.{FitsPins}
-
--- the unit that renders an entity of this kind, if it is a unit
-abbrev pub unit_of : EntityKind → Option UnitKind
-unit_of kind.Mixer = Some unit.Mixer
-unit_of kind.Selector = Some unit.Selector
-unit_of kind.Feature = Some unit.Feature
-unit_of kind.Effect = Some unit.Effect
-unit_of kind.InputTerminal = None
-unit_of kind.OutputTerminal = None
-unit_of kind.ClockSource = None
-unit_of kind.ClockSelector = None
-unit_of kind.ClockMultiplier = None
+use Rattle.uac_graph.specs.Needs.{is_unit, unit_of}
 
 -- a unit or an output terminal, which takes a signal from its sources
 abbrev pub takes_signal : EntityKind → Bool
-takes_signal kind.OutputTerminal = true
-takes_signal kind.Mixer = true
-takes_signal kind.Selector = true
-takes_signal kind.Feature = true
-takes_signal kind.Effect = true
-takes_signal kind.InputTerminal = false
-takes_signal kind.ClockSource = false
-takes_signal kind.ClockSelector = false
-takes_signal kind.ClockMultiplier = false
+takes_signal k = is_unit k || is_output k
 
 -- how many gains a unit of the kind has
 abbrev pub gain_count : UnitKind → ℕ → ℕ → ℕ

@@ -7,7 +7,7 @@ use Rattle.uac_units.specs.declared.jobs.UnitKind.{UnitKind}
 use Rattle.uac_graph.specs.declared.tasks.Task.{Task}
 use Rattle.uac_graph.specs.declared.tasks.Work.{Work}
 use Rattle.uac_graph.specs.declared.tasks.Work.TheVariants.{Pass, Render, Ask}
-use Rattle.uac_graph.specs.Jobs.{unit_of}
+use Rattle.uac_graph.specs.Needs.{unit_of}
 
 -- an entity of one source is rendered by its unit, or passes its source's frame on where it has none. Any other is asked at the tick
 abbrev pub work_by : ℕ → Option UnitKind → List ℕ → Work

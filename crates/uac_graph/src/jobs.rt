@@ -8,6 +8,7 @@ ghost use Rattle.uac_units.specs.Rendering.{in_a_row};
 ghost use Rattle.uac_units.specs.declared.jobs.UnitKind.TheVariants.{Selector};
 ghost use Rattle.uac_graph.specs.GraphControls.{controls_in};
 ghost use Rattle.uac_graph.specs.Jobs as spec;
+ghost use Rattle.uac_graph.specs.Needs as needs;
 ghost use Rattle.uac_graph.specs.Jobs.{HasJob, IsAskable, IsJob};
 ghost use Rattle.uac_graph.specs.Wiring.{samples_on};
 
@@ -22,7 +23,7 @@ use uac_units::{Job, Pins, Rack, Unit, UnitKind};
 
 /// The unit that renders an entity of this kind, None for terminals and clocks.
 pub(crate) fn unit_of(kind: EntityKind) -> Option<UnitKind>
-    ensures { result ≡ spec.unit_of kind }
+    ensures { result ≡ needs.unit_of kind }
 {
     match kind {
         EntityKind::Mixer => Some(UnitKind::Mixer),
@@ -40,7 +41,7 @@ pub(crate) fn unit_of(kind: EntityKind) -> Option<UnitKind>
 /// The rack's unit that renders an entity of this kind, None for terminals and clocks.
 pub(crate) fn unit_for(rack: &Rack, kind: EntityKind) -> Option<&dyn Unit>
     requires { IsFitted (λ v x. (⟦<dyn Unit as Unit>⟧ v).kind_of x) rack.now }
-    ensures { option_map (λ unit. kind_of unit.now) result ≡ spec.unit_of kind }
+    ensures { option_map (λ unit. kind_of unit.now) result ≡ needs.unit_of kind }
 {
     match kind {
         EntityKind::Mixer => Some(rack.unit(UnitKind::Mixer)),

@@ -7,6 +7,7 @@ use Rattle.std.proofs.lemmas.List.Folds.{find_at}
 use Rattle.std.proofs.lemmas.Option.{slice_get_past, slice_get-get_or}
 use Rattle.uac_entities.specs.EntityInterfaces.{entity_by_id}
 use Rattle.uac_entities.specs.declared.entity.Entity.{Entity}
+use Rattle.uac_topology_rules.specs.Table.{first_index_of}
 
 positioned_is_found : {A : Type 0} (is : A → Bool) (xs : List A) → option_and_then (slice_get xs) (position is xs) ≡ find is xs
 positioned_is_found is xs = from (nat_lt index (length xs)) refl ∙ sym (find_at is xs) where
@@ -26,12 +27,12 @@ found_at is xs index there = ap (option_and_then (slice_get xs)) (sym there) ∙
 pub found_nowhere : {A : Type 0} (is : A → Bool) (xs : List A) → position is xs ≡ None → None ≡ find is xs
 found_nowhere is xs none = ap (option_and_then (slice_get xs)) (sym none) ∙ positioned_is_found is xs
 
-pub named_at : (entities : List Entity) (id index : ℕ) → position (λ e. e.id == id) entities ≡ Some index → slice_get entities index ≡ entity_by_id entities id
-unfolding entity_by_id
+pub named_at : (entities : List Entity) (id index : ℕ) → first_index_of entities id ≡ Some index → slice_get entities index ≡ entity_by_id entities id
+unfolding entity_by_id first_index_of
 named_at entities id index is = found_at (λ (e : Entity). e.id == id) entities index is
 
-pub named_nowhere : (entities : List Entity) (id : ℕ) → position (λ e. e.id == id) entities ≡ None → None ≡ entity_by_id entities id
-unfolding entity_by_id
+pub named_nowhere : (entities : List Entity) (id : ℕ) → first_index_of entities id ≡ None → None ≡ entity_by_id entities id
+unfolding entity_by_id first_index_of
 named_nowhere entities id is = found_nowhere (λ (e : Entity). e.id == id) entities is
 
 -- an element that is looked up, under its reference

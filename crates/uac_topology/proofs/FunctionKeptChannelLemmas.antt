@@ -11,9 +11,9 @@ use Rattle.uac_entities.specs.declared.entity.Cluster.{Cluster}
 use Rattle.uac_entities.specs.declared.entity.Entity.{Entity}
 use Rattle.uac_entities.specs.declared.entity.EntityKind.{EntityKind}
 use Rattle.uac_entities.specs.declared.entity.EntityKind.TheVariants as kind
-use Rattle.uac_topology_rules.specs.Clusters.{cluster_of, cluster_step, with_own_clusters, takes_over}
+use Rattle.uac_topology_rules.specs.Clusters.{cluster_of, cluster_step, has_own_cluster, with_own_clusters, takes_over}
 use Rattle.uac_topology_rules.specs.Links.{is_clock, signal_links, signal_sources}
-use Rattle.uac_topology_rules.specs.Rules.{breaks_u3, breaks_u4, breaks_u6, breaks_u8, has_own_cluster, is_output, is_silent}
+use Rattle.uac_topology_rules.specs.Rules.{breaks_u3, breaks_u4, breaks_u6, breaks_u8, is_output, is_silent}
 use Rattle.uac_topology_rules.specs.Table.{at, first_index_of, kind_of, nothing, index_of}
 use Rattle.uac_topology_rules.proofs.ClustersLemmas.{cluster_is}
 use Rattle.uac_topology_rules.proofs.LinksLemmas.{signal_links-at}

@@ -1,9 +1,9 @@
 // A sound function.
-ghost use Rattle.std.specs.Prelude.{◌≡◌, ◌==◌, position};
+ghost use Rattle.std.specs.Prelude.{◌≡◌, ◌<◌, length, IfSome};
 ghost use Rattle.std.specs.Option.{option_map};
 ghost use Rattle.uac_entities.specs.EntityInterfaces.{channels_of, entity_by_id};
 ghost use Rattle.uac_topology.specs.Function.{FunctionFields, interface_in, stream_index};
-ghost use Rattle.uac_topology_rules.specs.Table.{at, index_of};
+ghost use Rattle.uac_topology_rules.specs.Table.{at, first_index_of, index_of};
 
 use std::marker::Model;
 use uac_entities::{Entity, StreamInterface};
@@ -54,7 +54,8 @@ impl Function {
     /// The index of the entity with this id, None exactly where no entity has it.
     #[tactic(auto, unfolding(uac_topology_rules::specs::Table::first_index_of))]
     pub fn find(&self, id: u8) -> Option<usize>
-        ensures { result ≡ position (λ e. e.id == id) self.now.entities }
+        ensures value { result ≡ first_index_of self.now.entities id }
+        ensures there { IfSome result (λ index. index < length self.now.entities) }
     {
         self.table.find(id)
     }

@@ -1,10 +1,10 @@
 -- Whom the rules on cycles name.
-use Rattle.std.proofs.Common.{◌≡◌, ◌↔◌, ◌⊎◌, ℕ, ◌+◌, ◌<◌, ◌≤◌, Bool, true, false, List, Option, Some, None, zero, suc, length, refl, sym, ap, ◌∙◌, arith, inl, inr, subst}
+use Rattle.std.proofs.Common.{◌≡◌, ◌⊎◌, ℕ, ◌<◌, Bool, true, false, List, Option, Some, None, zero, suc, length, refl, sym, ap, ◌∙◌, arith, inl, inr, subst}
 use Rattle.std.specs.Option.{option_or}
 use Rattle.std.proofs.lemmas.Bool.{cases_Bool, cases_eq, both_ways}
 use Rattle.std.proofs.lemmas.List.{length-map}
 use Rattle.std.proofs.lemmas.Option.{none-some, same_Some}
-use Rattle.uac_walk.specs.Walk.{has_walk, leads}
+use Rattle.uac_walk.specs.Walk.{has_walk}
 use Rattle.uac_walk.specs.Order.{IsClosed}
 use Rattle.uac_walk.specs.Cycles.{ComesRound, HasCycle}
 use Rattle.uac_walk.proofs.CyclesLemmas as walks
@@ -14,7 +14,7 @@ use Rattle.uac_topology_rules.specs.Table.{at}
 use Rattle.uac_topology_rules.specs.Links.{signal_links, clock_links}
 use Rattle.uac_topology_rules.specs.Rules.{breaks_u6, breaks_u7}
 use Rattle.uac_topology_rules.specs.RuleFaults.{of_entity, broken_names, broken_walks}
-use Rattle.uac_topology_rules.specs.LinkCycles.{IsFirstRound, HasNoCycle, IsSignalFault, IsClockFault, CyclesAreNamed, WalkRulesNameCycles}
+use Rattle.uac_topology_rules.specs.LinkCycles.{IsFirstRound, HasNoCycle, IsSignalFault, IsClockFault, WalkRulesNameCycles}
 use Rattle.uac_topology_rules.proofs.RuleFaultsLemmas.{fault_by, entity_breaks, no_entity_breaks, breaks_none}
 use Rattle.uac_topology_rules.proofs.LinksLemmas.{or_none, option_or-none, signal_closed, clock_closed}
 

@@ -1,7 +1,8 @@
 -- The channels that an entity puts out (Audio Class 2.0, 4.1, the cluster descriptor): an input terminal (3.13.1) and a
 -- mixer (3.13.3) have their own cluster, a selector (3.13.4) that of its first pin, a feature (3.13.5), an effect (3.13.7)
 -- and an output terminal (3.13.2) that of their source.
-use Rattle.std.specs.Prelude.{◌≡◌, ℕ, ◌+◌, zero, suc, Bool, true, false, if◌then◌else◌, List, [], ◌∷◌, map, length, slice_get, sum}
+use Rattle.std.specs.Prelude.{◌≡◌, ℕ, ◌+◌, zero, suc, Bool, true, false, ◌||◌, not, if◌then◌else◌}
+use Rattle.std.specs.Prelude.{List, [], ◌∷◌, map, length, slice_get, sum}
 use Rattle.std.specs.List.{flat_map, range_with_len}
 use Rattle.std.specs.Option.{option_map_or}
 use Rattle.uac_walk.specs.Walk.{links, has_walk}
@@ -12,19 +13,23 @@ use Rattle.uac_entities.specs.declared.entity.EntityKind.{EntityKind}
 use Rattle.uac_entities.specs.declared.entity.EntityKind.TheVariants as kind
 pub use Rattle.uac_entities.specs.EntityInterfaces.{is_input}
 use Rattle.uac_topology_rules.specs.Table.{at, with_cluster}
-use Rattle.uac_topology_rules.specs.Links.{signal_links}
+use Rattle.uac_topology_rules.specs.Links.{is_clock, signal_links}
 
--- the cluster is that of the first source
+-- an input terminal (Audio Class 2.0, 3.13.1) and a mixer (3.13.3) have a cluster of their own
+abbrev pub has_own_cluster : EntityKind → Bool
+has_own_cluster kind.ClockSource = false
+has_own_cluster kind.ClockSelector = false
+has_own_cluster kind.ClockMultiplier = false
+has_own_cluster kind.InputTerminal = true
+has_own_cluster kind.OutputTerminal = false
+has_own_cluster kind.Mixer = true
+has_own_cluster kind.Selector = false
+has_own_cluster kind.Feature = false
+has_own_cluster kind.Effect = false
+
+-- whether its cluster is that of its first source: it is no clock and has none of its own
 abbrev pub takes_over : EntityKind → Bool
-takes_over kind.ClockSource = false
-takes_over kind.ClockSelector = false
-takes_over kind.ClockMultiplier = false
-takes_over kind.InputTerminal = false
-takes_over kind.OutputTerminal = true
-takes_over kind.Mixer = false
-takes_over kind.Selector = true
-takes_over kind.Feature = true
-takes_over kind.Effect = true
+takes_over k = not (is_clock k || has_own_cluster k)
 
 -- the cluster of an entity, by those of its sources
 abbrev pub cluster_by : Entity → List ℕ → (ℕ → Cluster) → Cluster

@@ -16,7 +16,7 @@ use Rattle.uac_entities.specs.declared.entity.EntityKind.TheVariants as kind
 use Rattle.uac_entities.specs.declared.stream.StreamInterface.{StreamInterface}
 use Rattle.uac_topology_rules.specs.Table.{at, first_index_of, kind_of}
 use Rattle.uac_topology_rules.specs.Links.{is_clock, is_terminal, signal_sources, clock_sources, signal_links, clock_links}
-use Rattle.uac_topology_rules.specs.Clusters.{cluster_of, pins, inputs, clocks_of}
+use Rattle.uac_topology_rules.specs.Clusters.{cluster_of, has_own_cluster, pins, inputs, clocks_of}
 use Rattle.uac_topology_rules.specs.Domains.{domains_of, names_new}
 
 -- U1 (Audio Class 2.0, 4.7.2): an id is not 0
@@ -69,18 +69,6 @@ breaks_u6 entities index = has_walk (signal_links entities) (length entities) in
 -- U7 (profile): the same for clock source links
 unfoldable pub breaks_u7 : List Entity → ℕ → Bool
 breaks_u7 entities index = has_walk (clock_links entities) (length entities) index
-
--- an input terminal (Audio Class 2.0, 3.13.1) and a mixer (3.13.3) have a cluster of their own
-abbrev pub has_own_cluster : EntityKind → Bool
-has_own_cluster kind.ClockSource = false
-has_own_cluster kind.ClockSelector = false
-has_own_cluster kind.ClockMultiplier = false
-has_own_cluster kind.InputTerminal = true
-has_own_cluster kind.OutputTerminal = false
-has_own_cluster kind.Mixer = true
-has_own_cluster kind.Selector = false
-has_own_cluster kind.Feature = false
-has_own_cluster kind.Effect = false
 
 -- U8 (Audio Class 2.0, 4.1; profile: at most 32, and all 32 bits count alike): a cluster has channels, and no more
 -- locations than channels

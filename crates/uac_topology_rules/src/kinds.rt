@@ -1,5 +1,6 @@
 // What kind an entity is of.
 ghost use Rattle.std.specs.Prelude.{◌≡◌};
+ghost use Rattle.uac_topology_rules.specs.Clusters as clusters;
 ghost use Rattle.uac_topology_rules.specs.Links as links;
 ghost use Rattle.uac_topology_rules.specs.Rules as rules;
 
@@ -47,6 +48,22 @@ pub(crate) fn is_terminal(kind: EntityKind) -> bool
         | EntityKind::ClockSelector
         | EntityKind::ClockMultiplier
         | EntityKind::Mixer
+        | EntityKind::Selector
+        | EntityKind::Feature
+        | EntityKind::Effect => false,
+    }
+}
+
+/// Whether an entity of the kind has a cluster of its own (Audio Class 2.0, 3.13.1 and 3.13.3).
+pub(crate) fn has_own_cluster(kind: EntityKind) -> bool
+    ensures { result ≡ clusters.has_own_cluster kind }
+{
+    match kind {
+        EntityKind::InputTerminal | EntityKind::Mixer => true,
+        EntityKind::ClockSource
+        | EntityKind::ClockSelector
+        | EntityKind::ClockMultiplier
+        | EntityKind::OutputTerminal
         | EntityKind::Selector
         | EntityKind::Feature
         | EntityKind::Effect => false,

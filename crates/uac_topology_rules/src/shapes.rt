@@ -1,6 +1,5 @@
 // The rules on clusters, sizes and clocks, U8 to U11, and the limits of entities, U14.
 ghost use Rattle.std.specs.Prelude.{◌≡◌, ◌<◌, ◌-◌, ◌==◌, ◌&&◌, nat_lt, length, slice_index};
-ghost use Rattle.uac_topology_rules.specs.Clusters as spec;
 ghost use Rattle.uac_topology_rules.specs.Rules as rules;
 ghost use Rattle.uac_topology_rules.specs.RuleFaults.{of_entity, broken_shapes};
 ghost use Rattle.uac_topology_rules.specs.RuleNumbers.{number};
@@ -9,7 +8,7 @@ ghost use Rattle.uac_topology_rules.specs.Domains.{IsDomains};
 
 use crate::domains::Domains;
 use crate::fault::TopologyFault;
-use crate::kinds::{is_output, is_terminal};
+use crate::kinds::{has_own_cluster, is_output};
 use crate::known::Known;
 use crate::rule::Rule;
 use uac_entities::EntityKind;
@@ -192,21 +191,6 @@ fn too_large(kind: EntityKind, channels: bool, nodes: bool) -> bool
         | EntityKind::ClockMultiplier
         | EntityKind::InputTerminal
         | EntityKind::OutputTerminal
-        | EntityKind::Feature
-        | EntityKind::Effect => false,
-    }
-}
-
-fn has_own_cluster(kind: EntityKind) -> bool
-    ensures { result ≡ rules.has_own_cluster kind }
-{
-    match kind {
-        EntityKind::InputTerminal | EntityKind::Mixer => true,
-        EntityKind::ClockSource
-        | EntityKind::ClockSelector
-        | EntityKind::ClockMultiplier
-        | EntityKind::OutputTerminal
-        | EntityKind::Selector
         | EntityKind::Feature
         | EntityKind::Effect => false,
     }

@@ -1,17 +1,15 @@
 // The entities with what is found along their signal links: clusters, and the clocks behind them.
-ghost use Rattle.std.specs.Prelude.{◌≡◌, ◌<◌, ℕ, None, false, IfOk, List, length, slice_index, slice_index_or};
+ghost use Rattle.std.specs.Prelude.{◌≡◌, ◌<◌, ℕ, false, IfOk, List, length, slice_index, slice_index_or};
 ghost use Rattle.std.specs.Option.{option_map_or};
-ghost use Rattle.uac_walk.specs.Walk.{has_walk};
-ghost use Rattle.uac_walk.specs.Walk.{links as links_at};
 ghost use Rattle.uac_entities.specs.Entities.{no_cluster};
 ghost use Rattle.uac_topology_rules.specs.Table.{at};
-ghost use Rattle.uac_topology_rules.specs.Links.{signal_links};
 ghost use Rattle.uac_topology_rules.specs.Clusters as spec;
 ghost use Rattle.uac_topology_rules.specs.Behind as behind;
 ghost use Rattle.uac_topology_rules.specs.Behind.{Summarizes};
 ghost use Rattle.uac_topology_rules.specs.declared.signals.Behind.TheVariants as clocks;
-ghost use Rattle.uac_topology_rules.specs.Signals.{AreClusters, AreClocks, IsAcyclic, IsWalkable};
+ghost use Rattle.uac_topology_rules.specs.Signals.{AreClusters, AreClocks, IsWalkable};
 
+use crate::kinds::{has_own_cluster, is_clock};
 use crate::table::EntityTable;
 use std::alloc::Global;
 use uac_descriptor::NoMemory;
@@ -90,20 +88,11 @@ fn cluster_at(clusters: &[Cluster], index: Option<usize>) -> Cluster
     }
 }
 
+// Whether its cluster is that of its first source.
 fn takes_over(kind: EntityKind) -> bool
     ensures { result ≡ spec.takes_over kind }
 {
-    match kind {
-        EntityKind::OutputTerminal
-        | EntityKind::Selector
-        | EntityKind::Feature
-        | EntityKind::Effect => true,
-        EntityKind::ClockSource
-        | EntityKind::ClockSelector
-        | EntityKind::ClockMultiplier
-        | EntityKind::InputTerminal
-        | EntityKind::Mixer => false,
-    }
+    !(is_clock(kind) || has_own_cluster(kind))
 }
 
 /// What tells of the clocks behind each entity.

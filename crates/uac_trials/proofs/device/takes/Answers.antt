@@ -9,7 +9,7 @@ use Rattle.uac_trials.proofs.device.takes.Goals as goal
 pub returns-in-Some-clause-jack : goal.returns-in-Some-clause-jack
 returns-in-Some-clause-jack c taken =
     let here =
-    entity_found c.function-function.result.now.entities c.args.terminal c.in-Some.place c.index-entities-place.result (sym c.find.ensures ∙ c.in-Some.is)
+    entity_found c.function-function.result.now.entities c.args.terminal c.in-Some.place c.index-entities-place.result (sym c.find.ensures.value ∙ c.in-Some.is)
     (subst (λ (entities : List Entity). c.index-entities-place.result ≡ get_or entities c.in-Some.place c.index-entities-place.result) c.entities.ensures c.index-entities-place.is)
     ∙ ap (λ (f : FunctionFields). entity f.entities c.args.terminal) c.function-function.ensures in
     ap is_input_jack (sym here) ∙ c.is_taken.ensures.jack taken
@@ -17,7 +17,7 @@ returns-in-Some-clause-jack c taken =
 pub returns-in-Some-clause-channels : goal.returns-in-Some-clause-channels
 returns-in-Some-clause-channels c taken =
     let here =
-    entity_found c.function-function.result.now.entities c.args.terminal c.in-Some.place c.index-entities-place.result (sym c.find.ensures ∙ c.in-Some.is)
+    entity_found c.function-function.result.now.entities c.args.terminal c.in-Some.place c.index-entities-place.result (sym c.find.ensures.value ∙ c.in-Some.is)
     (subst (λ (entities : List Entity). c.index-entities-place.result ≡ get_or entities c.in-Some.place c.index-entities-place.result) c.entities.ensures c.index-entities-place.is)
     ∙ ap (λ (f : FunctionFields). entity f.entities c.args.terminal) c.function-function.ensures in
     sym c.len.ensures.value ∙ c.is_taken.ensures.channels taken ∙ ap (λ (e : Entity). e.cluster.channels) here

@@ -7,4 +7,4 @@ pub returns-in-Some : goal.returns-in-Some
 returns-in-Some c =
     looked_up _ _ _ c.get.ensures.lookup.0 c.get.ensures.lookup.1
     ∙ ap (λ (xs : List Entity). slice_get xs c.in-Some.index) c.entities.ensures
-    ∙ named_at _ _ _ (sym c.find.ensures ∙ c.in-Some.is)
+    ∙ named_at _ _ _ (sym c.find.ensures.value ∙ c.in-Some.is)
