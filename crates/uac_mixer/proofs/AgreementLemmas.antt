@@ -110,7 +110,7 @@ module _ (f : FunctionFields) (h : RequestState) (p : Setup) (sent : List ℕ) (
   control_bytes type r =
       let value : value_of h.controls (key_named p) ≡ Some held.value = subst (λ (k : Key). value_of h.controls k ≡ Some held.value) r.key' held.is in
       ap (λ (o : Option Owner). option_map_or (cur_bytes f h p) o []) (own type r)
-      ∙ kinds.told m.entity h.controls (key_named p) refl (sym (ap (λ (k : Key). k.selector) r.key'))
+      ∙ kinds.told m.entity h.controls (key_named p) (sym (ap (λ (k : Key). k.selector) r.key'))
       ∙ ap (λ (o : Option ℤ). value_bytes (width_of x.kind) (unwrap_or o (pos 0))) value
 
   get_answered : (q : Option ℕ) (all bytes : List ℕ) → option_map_or is_stalled q (with_bytes all) ≡ with_bytes bytes → all ≡ bytes

@@ -1,7 +1,7 @@
 -- The controls that elements stand for, by an entity's kind and the selector.
-use Rattle.std.proofs.Common.{◌≡◌, ◌∙◌, refl, ap, sym, subst, ℕ, ◌%◌, ◌≤◌, ◌==◌, ◌&&◌, nat_lt, nat_le, Bool, true, false, if◌then◌else◌, ℤ, pos, negsuc, List, Option, Some, None, is_some, arith, rules, inl, inr, [], ◌∷◌, w32, FitsSigned}
+use Rattle.std.proofs.Common.{◌≡◌, ◌∙◌, refl, ap, sym, subst, ℕ, ◌%◌, ◌≤◌, ◌==◌, ◌&&◌, nat_lt, nat_le, true, false, ℤ, pos, negsuc, List, Option, Some, None, is_some, unwrap_or, arith, rules, inl, inr, w32, FitsSigned}
 use Rattle.std.specs.Option.{option_and_then}
-use Rattle.std.proofs.lemmas.Bool.{and_parts, cases_Bool, eqb-true}
+use Rattle.std.proofs.lemmas.Bool.{and_parts, cases_Bool}
 use Rattle.uac_clock.specs.Nominal.{is_listed}
 use Rattle.uac_entities.specs.declared.entity.Entity.{Entity}
 use Rattle.uac_entities.specs.declared.entity.EntityKind.{EntityKind}
@@ -11,6 +11,7 @@ use Rattle.uac_store.specs.declared.controls.Control.{Control}
 use Rattle.uac_store.specs.ControlTable.{control_of, is_frequency, selectors_of, takes_by}
 use Rattle.uac_store.proofs.ControlTableLemmas.{one_or_two}
 use Rattle.uac_request.specs.Requests.{entity_bytes, entity_width, is_signed, IsWithin, kept_bytes}
+use Rattle.uac_request.proofs.RequestElementsLemmas.{kept_value}
 use Rattle.uac_request.proofs.RequestsByteLemmas.{taken_within}
 use Rattle.uac_mixer.specs.declared.kinds.ElementKind.{ElementKind}
 use Rattle.uac_mixer.specs.declared.kinds.ElementKind.TheVariants as shown
@@ -49,17 +50,14 @@ pub record Agrees (k : EntityKind) (s : ℕ) (x : ElementKind) : Type 0 where
   pub above : nat_lt 0 s ≡ true
   pub kept : nat_le s (selectors_of k) ≡ true
   pub fits : (pins attributes : ℕ) (v : ℤ) → takes_by k pins attributes s v ≡ true → fits_element x v ≡ true
-  pub told : (e : Entity) (controls : List (Key × ℤ)) (key : Key) → e.kind ≡ k → key.selector ≡ s → entity_bytes k e controls key ≡ kept_bytes controls key (Some (width_of x))
+  pub told : (e : Entity) (controls : List (Key × ℤ)) (key : Key) → key.selector ≡ s → entity_bytes k e controls key ≡ kept_bytes controls key (width_of x)
 
--- the control of a clock source that keeps a value isn't its validity
-of_source : (b : Bool) (s : ℕ) (xs ys zs : List ℕ) → (s == 2) ≡ b → s ≡ 1 → ys ≡ zs → (if b then xs else ys) ≡ zs
-of_source true s xs ys zs is one same = (let two : s ≡ 2 = eqb-true s 2 is in let no : 1 ≡ 2 = sym one ∙ two in absurd (omega arith))
-of_source false s xs ys zs is one same = same
-
-width_told : (k : EntityKind) (s : ℕ) (x : ElementKind) (e : Entity) (controls : List (Key × ℤ)) (key : Key) → entity_width k s ≡ Some (width_of x) → e.kind ≡ k → key.selector ≡ s
-    → kept_bytes controls key (entity_width e.kind key.selector) ≡ kept_bytes controls key (Some (width_of x))
-width_told k s x e controls key wide kind is =
-    ap (λ (w : Option ℕ). kept_bytes controls key w) (ap (λ (l : EntityKind). entity_width l key.selector) kind ∙ ap (entity_width k) is ∙ wide)
+-- a control that keeps a value tells it in its bytes
+told_by : (k : EntityKind) (s : ℕ) (x : ElementKind) (e : Entity) (controls : List (Key × ℤ)) (key : Key) → entity_width k s ≡ Some (width_of x) → nat_lt 0 s ≡ true → nat_le s (selectors_of k) ≡ true
+    → key.selector ≡ s → entity_bytes k e controls key ≡ kept_bytes controls key (width_of x)
+told_by k s x e controls key wide some low is =
+    kept_value k e controls key (ap (λ n. nat_lt 0 n) is ∙ some) (ap (λ n. nat_le n (selectors_of k)) is ∙ low)
+    ∙ ap (λ (w : Option ℕ). kept_bytes controls key (unwrap_or w 0)) (ap (entity_width k) is ∙ wide)
 
 rate : Agrees kind.ClockSource 1 shown.Rate
 rate = record {
@@ -68,7 +66,7 @@ rate = record {
   above = refl;
   kept = refl;
   fits = λ pins attributes v taken. frequency attributes v taken;
-  told = λ e controls key of is. of_source (key.selector == 2) key.selector (1 ∷ []) (kept_bytes controls key (entity_width e.kind key.selector)) (kept_bytes controls key (Some 4)) refl is (width_told kind.ClockSource 1 shown.Rate e controls key refl of is);
+  told = λ e controls key. told_by kind.ClockSource 1 shown.Rate e controls key refl refl refl;
 }
 
 clock : Agrees kind.ClockSelector 1 shown.Clock
@@ -78,7 +76,7 @@ clock = record {
   above = refl;
   kept = refl;
   fits = λ pins attributes v taken. byte v (taken_within kind.ClockSelector pins attributes 1 v refl refl taken);
-  told = λ e controls key of is. width_told kind.ClockSelector 1 shown.Clock e controls key refl of is;
+  told = λ e controls key. told_by kind.ClockSelector 1 shown.Clock e controls key refl refl refl;
 }
 
 times : Agrees kind.ClockMultiplier 1 shown.Times
@@ -88,7 +86,7 @@ times = record {
   above = refl;
   kept = refl;
   fits = λ pins attributes v taken. word v (taken_within kind.ClockMultiplier pins attributes 1 v refl refl taken);
-  told = λ e controls key of is. width_told kind.ClockMultiplier 1 shown.Times e controls key refl of is;
+  told = λ e controls key. told_by kind.ClockMultiplier 1 shown.Times e controls key refl refl refl;
 }
 
 over : Agrees kind.ClockMultiplier 2 shown.Over
@@ -98,7 +96,7 @@ over = record {
   above = refl;
   kept = refl;
   fits = λ pins attributes v taken. word v (taken_within kind.ClockMultiplier pins attributes 2 v refl refl taken);
-  told = λ e controls key of is. width_told kind.ClockMultiplier 2 shown.Over e controls key refl of is;
+  told = λ e controls key. told_by kind.ClockMultiplier 2 shown.Over e controls key refl refl refl;
 }
 
 mix : Agrees kind.Mixer 1 shown.Mix
@@ -108,7 +106,7 @@ mix = record {
   above = refl;
   kept = refl;
   fits = λ pins attributes v taken. gain v (taken_within kind.Mixer pins attributes 1 v refl refl taken);
-  told = λ e controls key of is. width_told kind.Mixer 1 shown.Mix e controls key refl of is;
+  told = λ e controls key. told_by kind.Mixer 1 shown.Mix e controls key refl refl refl;
 }
 
 select : Agrees kind.Selector 1 shown.Select
@@ -118,7 +116,7 @@ select = record {
   above = refl;
   kept = refl;
   fits = λ pins attributes v taken. byte v (taken_within kind.Selector pins attributes 1 v refl refl taken);
-  told = λ e controls key of is. width_told kind.Selector 1 shown.Select e controls key refl of is;
+  told = λ e controls key. told_by kind.Selector 1 shown.Select e controls key refl refl refl;
 }
 
 mute : Agrees kind.Feature 1 shown.Mute
@@ -128,7 +126,7 @@ mute = record {
   above = refl;
   kept = refl;
   fits = λ pins attributes v taken. byte v (taken_within kind.Feature pins attributes 1 v refl refl taken);
-  told = λ e controls key of is. width_told kind.Feature 1 shown.Mute e controls key refl of is;
+  told = λ e controls key. told_by kind.Feature 1 shown.Mute e controls key refl refl refl;
 }
 
 volume : Agrees kind.Feature 2 shown.Volume
@@ -138,7 +136,7 @@ volume = record {
   above = refl;
   kept = refl;
   fits = λ pins attributes v taken. gain v (taken_within kind.Feature pins attributes 2 v refl refl taken);
-  told = λ e controls key of is. width_told kind.Feature 2 shown.Volume e controls key refl of is;
+  told = λ e controls key. told_by kind.Feature 2 shown.Volume e controls key refl refl refl;
 }
 
 enable : Agrees kind.Effect 1 shown.Enable
@@ -148,7 +146,7 @@ enable = record {
   above = refl;
   kept = refl;
   fits = λ pins attributes v taken. byte v (taken_within kind.Effect pins attributes 1 v refl refl taken);
-  told = λ e controls key of is. width_told kind.Effect 1 shown.Enable e controls key refl of is;
+  told = λ e controls key. told_by kind.Effect 1 shown.Enable e controls key refl refl refl;
 }
 
 -- the only kind that an element is

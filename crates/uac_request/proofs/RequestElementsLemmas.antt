@@ -12,13 +12,13 @@ use Rattle.uac_topology.specs.Topology.{IsSoundFunction}
 use Rattle.uac_topology.proofs.FunctionKeptNumberLemmas.{are_numbered}
 use Rattle.uac_alt.specs.declared.settings.InterfaceSetting.{InterfaceSetting}
 use Rattle.uac_store.specs.declared.keys.Key.{Key}
-use Rattle.uac_store.specs.ControlTable.{selectors_of}
+use Rattle.uac_store.specs.ControlTable.{control_of, selectors_of}
 use Rattle.uac_store.specs.StoreControls.{IsStoreOf}
 use Rattle.uac_store.specs.Keyed.{value_of, with_value}
 use Rattle.uac_store.proofs.ControlTableLemmas.{at_each}
 use Rattle.uac_request.specs.declared.setup.Setup.{Setup}
 use Rattle.uac_request.specs.RequestElements.{get_of, is_present, set_of, is_signed_at, width_at}
-use Rattle.uac_request.specs.Requests.{after_request, unbroken_reply, by_entity, controls_set, cur_bytes, cur_named, entity_bytes, entity_width, first_broken, has_interface, RequestState, request_state, high, is_declared_on, is_done, is_signed, is_stalled, kept_bytes, key_named, left_by, low, Owner, owner_of, reply_of, sent_value, value_bytes, value_from, with_bytes}
+use Rattle.uac_request.specs.Requests.{after_request, unbroken_reply, by_entity, control_bytes, controls_set, cur_bytes, cur_named, entity_bytes, entity_width, first_broken, has_interface, RequestState, request_state, high, is_declared_on, is_done, is_signed, is_stalled, kept_bytes, key_named, left_by, low, Owner, owner_of, reply_of, sent_value, value_bytes, value_from, with_bytes}
 use Rattle.uac_request.proofs.RequestsRuleLemmas.{answered_cur, answered_set, first_cur, left_cur, left_set}
 use Rattle.uac_request.proofs.RequestElementsValueLemmas.{few_channels, IsKept, kept_in}
 use Rattle.uac_request.proofs.RequestsByteLemmas.{length_value}
@@ -35,16 +35,33 @@ take_all : (n : ℕ) (xs : List ℕ) → length xs ≡ n → take n xs ≡ xs
 take_all n xs is = ap (λ m. take m xs) (sym is) ∙ take-length xs
 
 -- a control that keeps a value answers with it
-kept_value : (k : EntityKind) (e : Entity) (controls : List (Key × ℤ)) (key : Key) → e.kind ≡ k → nat_lt 0 key.selector ≡ true → nat_le key.selector (selectors_of k) ≡ true → entity_bytes k e controls key ≡ kept_bytes controls key (entity_width e.kind key.selector)
-kept_value kind.ClockSource e controls key is some low = (let other : (key.selector == 2) ≡ false = grind arith in rw other refl)
-kept_value kind.ClockSelector e controls key is some low = refl
-kept_value kind.ClockMultiplier e controls key is some low = refl
-kept_value kind.InputTerminal e controls key is some low = absurd (grind arith)
-kept_value kind.OutputTerminal e controls key is some low = absurd (grind arith)
-kept_value kind.Mixer e controls key is some low = refl
-kept_value kind.Selector e controls key is some low = refl
-kept_value kind.Feature e controls key is some low = refl
-kept_value kind.Effect e controls key is some low = refl
+abbrev Tells : EntityKind → Entity → List (Key × ℤ) → Key → ℕ → Type 0
+Tells k e controls key selector = option_map_or (λ c. control_bytes c e controls key) (control_of k selector) [] ≡ kept_bytes controls key (unwrap_or (entity_width k selector) 0)
+
+first_tells : (k : EntityKind) (e : Entity) (controls : List (Key × ℤ)) (key : Key) → nat_le 1 (selectors_of k) ≡ true → Tells k e controls key 1
+first_tells kind.ClockSource e controls key low = refl
+first_tells kind.ClockSelector e controls key low = refl
+first_tells kind.ClockMultiplier e controls key low = refl
+first_tells kind.InputTerminal e controls key low = cc
+first_tells kind.OutputTerminal e controls key low = cc
+first_tells kind.Mixer e controls key low = refl
+first_tells kind.Selector e controls key low = refl
+first_tells kind.Feature e controls key low = refl
+first_tells kind.Effect e controls key low = refl
+
+second_tells : (k : EntityKind) (e : Entity) (controls : List (Key × ℤ)) (key : Key) → nat_le 2 (selectors_of k) ≡ true → Tells k e controls key 2
+second_tells kind.ClockSource e controls key low = cc
+second_tells kind.ClockSelector e controls key low = cc
+second_tells kind.ClockMultiplier e controls key low = refl
+second_tells kind.InputTerminal e controls key low = cc
+second_tells kind.OutputTerminal e controls key low = cc
+second_tells kind.Mixer e controls key low = cc
+second_tells kind.Selector e controls key low = cc
+second_tells kind.Feature e controls key low = refl
+second_tells kind.Effect e controls key low = cc
+
+pub kept_value : (k : EntityKind) (e : Entity) (controls : List (Key × ℤ)) (key : Key) → nat_lt 0 key.selector ≡ true → nat_le key.selector (selectors_of k) ≡ true → entity_bytes k e controls key ≡ kept_bytes controls key (unwrap_or (entity_width k key.selector) 0)
+kept_value k e controls key some low = at_each k (Tells k e controls key) key.selector some low (first_tells k e controls key) (second_tells k e controls key)
 
 first_has_width : (k : EntityKind) → nat_le 1 (selectors_of k) ≡ true → is_some (entity_width k 1) ≡ true
 first_has_width kind.ClockSource low = refl
@@ -109,8 +126,8 @@ module _ (function : FunctionFields) (own : function.control_interface < 256) (k
         let wide : width_at function.entities k ≡ unwrap_or (entity_width e.kind k.selector) 0 = ap (λ o. option_map_or (λ (x : Entity). unwrap_or (entity_width x.kind k.selector) 0) o 0) kept.is in
         let by_owner : cur_named function held p ≡ entity_bytes e.kind e held.controls (key_named p) = ap (λ o. option_map_or (cur_bytes function held p) o []) owner_is in
         let by_key : entity_bytes e.kind e held.controls (key_named p) ≡ entity_bytes e.kind e controls k = λ j. entity_bytes e.kind e (same j) (key_is j) in
-        let by_kind : entity_bytes e.kind e controls k ≡ kept_bytes controls k (entity_width e.kind k.selector) = kept_value e.kind e controls k refl kept.some kept.low in
-        let by_value : kept_bytes controls k (entity_width e.kind k.selector) ≡ value_bytes (width_at function.entities k) v = λ j. value_bytes (sym wide j) (unwrap_or (is j) (pos 0)) in
+        let by_kind : entity_bytes e.kind e controls k ≡ kept_bytes controls k (unwrap_or (entity_width e.kind k.selector) 0) = kept_value e.kind e controls k kept.some kept.low in
+        let by_value : kept_bytes controls k (unwrap_or (entity_width e.kind k.selector) 0) ≡ value_bytes (width_at function.entities k) v = λ j. value_bytes (sym wide j) (unwrap_or (is j) (pos 0)) in
         by_owner ∙ by_key ∙ by_kind ∙ by_value
 
     controls_are : (held : RequestState) (sent : List ℕ) → controls_set function held p sent ≡ with_value held.controls k (value_from (is_signed_at function.entities k) sent)

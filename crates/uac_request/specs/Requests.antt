@@ -11,21 +11,24 @@ pub use Rattle.uac_sentence.specs.Grammar.{least}
 use Rattle.uac_entities.specs.EntityInterfaces.{entity_by_id}
 use Rattle.uac_entities.specs.declared.entity.Entity.{Entity}
 use Rattle.uac_entities.specs.declared.entity.EntityKind.{EntityKind}
-use Rattle.uac_entities.specs.declared.entity.EntityKind.TheVariants as kind
 use Rattle.uac_entities.specs.declared.stream.Setting.{Setting}
 use Rattle.uac_entities.specs.declared.stream.StreamInterface.{StreamInterface}
 use Rattle.uac_topology_rules.specs.Links.{is_clock}
 use Rattle.uac_topology.specs.Function.{FunctionFields, interface_in}
 use Rattle.uac_store.specs.declared.keys.Key.{Key}
 use Rattle.uac_store.specs.declared.keys.Range.{Range}
+use Rattle.uac_store.specs.declared.controls.Control.{Control}
+use Rattle.uac_store.specs.declared.controls.Control.TheVariants as control
 use Rattle.uac_store.specs.declared.controls.Spread.{Spread}
 use Rattle.uac_store.specs.declared.controls.Spread.TheVariants as spread
-use Rattle.uac_store.specs.ControlTable.{at_selector, facts_at, is_settable, spread_of}
+use Rattle.uac_store.specs.ControlTable.{at_selector, control_of, facts_at, facts_of, is_settable, spread_of}
 use Rattle.uac_store.specs.StoreControls.{count_of}
 use Rattle.uac_store.specs.Keyed.{key_of, value_of, with_value}
 use Rattle.uac_store.specs.Rates.{rate_of}
-use Rattle.uac_store.specs.Selectors.{AS_ACT_ALT_SETTING_CONTROL, AS_VAL_ALT_SETTINGS_CONTROL, CS_CLOCK_VALID_CONTROL}
+use Rattle.uac_store.specs.Selectors.{AS_ACT_ALT_SETTING_CONTROL, AS_VAL_ALT_SETTINGS_CONTROL}
 use Rattle.uac_store.specs.StoreValues.{ranges_of, is_legal}
+use Rattle.uac_request.specs.declared.controls.StreamControl.{StreamControl}
+use Rattle.uac_request.specs.declared.controls.StreamControl.TheVariants as stream_control
 use Rattle.uac_request.specs.declared.setup.Setup.{Setup}
 use Rattle.uac_request.specs.declared.reply.Answer.{Answer}
 use Rattle.uac_request.specs.declared.reply.Answer.TheVariants as told
@@ -112,9 +115,23 @@ entity_width k selector = option_map (λ f. f.width) (facts_at k selector)
 abbrev pub map_bytes : StreamInterface → ℕ
 map_bytes s = if nat_le (length s.settings) 8 then 1 else 2
 
--- the bytes of a streaming interface's control: that of its active setting, and that of its valid settings
+-- the controls of a streaming interface by their selectors (A.17.11), of those that this profile has
+abbrev pub stream_controls : List (ℕ × StreamControl)
+stream_controls =
+    (AS_ACT_ALT_SETTING_CONTROL, stream_control.ActiveSetting) ∷ (AS_VAL_ALT_SETTINGS_CONTROL, stream_control.ValidSettings) ∷ []
+
+-- the control of a streaming interface that a selector names
+abbrev pub stream_control_of : ℕ → Option StreamControl
+stream_control_of selector = at_selector stream_controls selector
+
+-- how many bytes a streaming interface's control has: one for its active setting; for its valid settings that of their number and the map's
+abbrev pub stream_control_width : StreamControl → StreamInterface → ℕ
+stream_control_width stream_control.ActiveSetting s = 1
+stream_control_width stream_control.ValidSettings s = 1 + map_bytes s
+
+-- the bytes of the control with a selector; none where there is none
 abbrev pub stream_width : StreamInterface → ℕ → Option ℕ
-stream_width s selector = at_selector ((AS_ACT_ALT_SETTING_CONTROL, 1) ∷ (AS_VAL_ALT_SETTINGS_CONTROL, 1 + map_bytes s) ∷ []) selector
+stream_width s selector = option_map (λ c. stream_control_width c s) (stream_control_of selector)
 
 abbrev pub width_of : Owner → ℕ → Option ℕ
 width_of (by_entity e) selector = entity_width e.kind selector
@@ -139,10 +156,18 @@ controls_word_of spread.Nodes channel = 0
 abbrev pub entity_bits : Entity → ℕ → ℕ → ℕ
 entity_bits e selector channel = get_or e.controls (controls_word_of (spread_of e.kind) channel) 0 / 4 ^ (selector - 1) % 4
 
+-- the two bits of a streaming interface's control in its word: the lowest are the active setting's, the next the valid settings' (4.9.2)
+abbrev pub stream_control_bits : StreamControl → ℕ → ℕ
+stream_control_bits stream_control.ActiveSetting word = word % 4
+stream_control_bits stream_control.ValidSettings word = word / 4 % 4
+
 -- the presence of an interface's controls is told by its first general block; without one both are absent
+abbrev pub stream_word : StreamInterface → ℕ
+stream_word s = option_map_or (λ g. g.controls) (find (λ g. true) (filter_map (λ t. t.general) s.settings)) 0
+
+-- the bits of the control with a selector; 00 where there is none
 abbrev pub stream_bits : StreamInterface → ℕ → ℕ
-stream_bits s selector =
-    option_map_or (λ g. g.controls / 4 ^ (selector - 1) % 4) (find (λ g. true) (filter_map (λ t. t.general) s.settings)) 0
+stream_bits s selector = option_map_or (λ c. stream_control_bits c (stream_word s)) (stream_control_of selector) 0
 
 -- a node's bit among those of its mixer, the most significant bit of the first byte being the first: 1 where it can be set (profile)
 abbrev pub node_bit : List ℕ → ℕ → ℕ
@@ -374,25 +399,31 @@ answer_fields told.Done = is_done
 answer_fields (told.Stall rule) = is_stalled rule
 
 -- the value that is kept, in the control's bytes
-abbrev pub kept_bytes : List (Key × ℤ) → Key → Option ℕ → List ℕ
-kept_bytes controls k width = value_bytes (unwrap_or width 0) (unwrap_or (value_of controls k) (pos 0))
+abbrev pub kept_bytes : List (Key × ℤ) → Key → ℕ → List ℕ
+kept_bytes controls k width = value_bytes width (unwrap_or (value_of controls k) (pos 0))
 
 -- a terminal's connector is its cluster (5.2.5.4.2)
 abbrev pub connector_bytes : Entity → List ℕ
 connector_bytes e = e.cluster.channels ∷ (little_bytes 4 e.cluster.locations ++ e.cluster.names ∷ [])
 
--- a clock source is always valid, and all other controls of entities keep a value
+-- a control's value in bytes: a clock source is always valid (5.2.5.1.2), a terminal's connector is its cluster, and each other control
+-- keeps a value
+abbrev pub control_bytes : Control → Entity → List (Key × ℤ) → Key → List ℕ
+control_bytes control.SamplingFrequency e controls k = kept_bytes controls k (facts_of control.SamplingFrequency).width
+control_bytes control.ClockValid e controls k = 1 ∷ []
+control_bytes control.ClockSelector e controls k = kept_bytes controls k (facts_of control.ClockSelector).width
+control_bytes control.Numerator e controls k = kept_bytes controls k (facts_of control.Numerator).width
+control_bytes control.Denominator e controls k = kept_bytes controls k (facts_of control.Denominator).width
+control_bytes control.Connector e controls k = connector_bytes e
+control_bytes control.MixerNode e controls k = kept_bytes controls k (facts_of control.MixerNode).width
+control_bytes control.Selector e controls k = kept_bytes controls k (facts_of control.Selector).width
+control_bytes control.Mute e controls k = kept_bytes controls k (facts_of control.Mute).width
+control_bytes control.Volume e controls k = kept_bytes controls k (facts_of control.Volume).width
+control_bytes control.Enable e controls k = kept_bytes controls k (facts_of control.Enable).width
+
+-- that of the control that a selector names; no bytes where it names none, which Q4 stalls
 abbrev pub entity_bytes : EntityKind → Entity → List (Key × ℤ) → Key → List ℕ
-entity_bytes kind.ClockSource e controls k =
-    if k.selector == CS_CLOCK_VALID_CONTROL then 1 ∷ [] else kept_bytes controls k (entity_width e.kind k.selector)
-entity_bytes kind.ClockSelector e controls k = kept_bytes controls k (entity_width e.kind k.selector)
-entity_bytes kind.ClockMultiplier e controls k = kept_bytes controls k (entity_width e.kind k.selector)
-entity_bytes kind.InputTerminal e controls k = connector_bytes e
-entity_bytes kind.OutputTerminal e controls k = connector_bytes e
-entity_bytes kind.Mixer e controls k = kept_bytes controls k (entity_width e.kind k.selector)
-entity_bytes kind.Selector e controls k = kept_bytes controls k (entity_width e.kind k.selector)
-entity_bytes kind.Feature e controls k = kept_bytes controls k (entity_width e.kind k.selector)
-entity_bytes kind.Effect e controls k = kept_bytes controls k (entity_width e.kind k.selector)
+entity_bytes k e controls key = option_map_or (λ c. control_bytes c e controls key) (control_of k key.selector) []
 
 -- the bit of a setting by its number, where it is valid
 abbrev pub valid_bit : FunctionFields → List (Key × ℤ) → StreamInterface → ℕ → ℕ
@@ -406,10 +437,14 @@ unfoldable pub valid_bytes : FunctionFields → List (Key × ℤ) → StreamInte
 valid_bytes function controls s =
     map_bytes s ∷ little_bytes (map_bytes s) (valid_sum function controls s s.settings)
 
+-- the value of a streaming interface's control in bytes (5.2.6): its active setting, or its valid settings
+abbrev pub stream_control_bytes : StreamControl → FunctionFields → RequestState → StreamInterface → List ℕ
+stream_control_bytes stream_control.ActiveSetting function held s = unwrap_or (setting_of held.settings s.number) 0 ∷ []
+stream_control_bytes stream_control.ValidSettings function held s = valid_bytes function held.controls s
+
+-- that of the control that a selector names; no bytes where it names none, which Q4 stalls
 abbrev pub stream_bytes : FunctionFields → RequestState → StreamInterface → ℕ → List ℕ
-stream_bytes function held s selector =
-    if selector == AS_ACT_ALT_SETTING_CONTROL then unwrap_or (setting_of held.settings s.number) 0 ∷ []
-    else valid_bytes function held.controls s
+stream_bytes function held s selector = option_map_or (λ c. stream_control_bytes c function held s) (stream_control_of selector) []
 
 unfoldable pub cur_bytes : FunctionFields → RequestState → Setup → Owner → List ℕ
 cur_bytes function held p (by_entity e) = entity_bytes e.kind e held.controls (key_named p)

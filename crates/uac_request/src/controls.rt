@@ -6,12 +6,34 @@ ghost use Rattle.uac_request.specs.Owners.{owner_fields};
 ghost use Rattle.uac_request.specs.Requests as spec;
 ghost use Rattle.uac_request.specs.Requests.{by_entity};
 
-use crate::declared::{is_declared_on, is_writable_on, two_bits};
+use crate::declared::{is_declared_on, is_writable_on};
 use crate::owner::Owner;
 use uac_descriptor::General;
 use uac_store::controls::facts_at;
 use uac_store::selectors::{AS_ACT_ALT_SETTING_CONTROL, AS_VAL_ALT_SETTINGS_CONTROL};
 use uac_topology::{Entity, EntityKind, Setting, StreamInterface};
+
+/// A control of a streaming interface (Audio Class 2.0, 5.2.6 and A.17.11).
+#[derive(Clone, Copy, PartialEq, Eq, Debug)]
+pub enum StreamControl {
+    /// The setting that is active.
+    ActiveSetting,
+    /// The settings that are valid.
+    ValidSettings,
+}
+
+/// The control of a streaming interface that a selector names, None where there is none (Audio Class 2.0, A.17.11).
+pub(crate) fn stream_control_of(selector: u8) -> Option<StreamControl>
+    ensures value { result ≡ spec.stream_control_of selector }
+    ensures some { IfSome result (λ control. 1 ≤ selector) }
+    ensures low { IfSome result (λ control. selector ≤ 2) }
+{
+    match selector {
+        AS_ACT_ALT_SETTING_CONTROL => Some(StreamControl::ActiveSetting),
+        AS_VAL_ALT_SETTINGS_CONTROL => Some(StreamControl::ValidSettings),
+        _ => None,
+    }
+}
 
 /// The bytes of the control with a selector, None where there is none (Audio Class 2.0, 5.2.5).
 pub(crate) fn width_of(owner: Owner<'_>, selector: u8) -> Option<u8>
@@ -44,10 +66,9 @@ fn stream_width(stream: &StreamInterface, selector: u8) -> Option<u8>
     ensures some { IfSome result (λ width. 1 ≤ selector) }
     ensures low { IfSome result (λ width. selector ≤ 2) }
 {
-    match selector {
-        AS_ACT_ALT_SETTING_CONTROL => Some(1),
-        AS_VAL_ALT_SETTINGS_CONTROL => Some(1 + map_bytes(stream)),
-        _ => None,
+    match stream_control_of(selector)? {
+        StreamControl::ActiveSetting => Some(1),
+        StreamControl::ValidSettings => Some(1 + map_bytes(stream)),
     }
 }
 
@@ -106,13 +127,23 @@ pub(crate) fn writable_entity<'a>(owner: Owner<'a>, selector: u8, channel: u8) -
     }
 }
 
-// The two bits of an interface's control, told by its first general block; 00 without one.
-fn stream_bits(stream: &StreamInterface, selector: u8) -> u32
-    requires { selector ≤ 2 }
+// The two bits of a streaming interface's control in its word (Audio Class 2.0, 4.9.2), 00 where there is none.
+fn stream_bits(stream: &StreamInterface, selector: u8) -> u8
     ensures { result ≡ spec.stream_bits stream.now selector }
 {
+    match stream_control_of(selector) {
+        Some(StreamControl::ActiveSetting) => stream_word(stream) % 4,
+        Some(StreamControl::ValidSettings) => stream_word(stream) / 4 % 4,
+        None => 0,
+    }
+}
+
+// The word of an interface's controls, told by its first general block; 0 without one.
+fn stream_word(stream: &StreamInterface) -> u8
+    ensures { result ≡ spec.stream_word stream.now }
+{
     match first_general(stream.settings.as_slice()) {
-        Some(general) => two_bits(u32::from(general.controls), selector),
+        Some(general) => general.controls,
         None => 0,
     }
 }

@@ -1,20 +1,20 @@
 // The bytes of a control's value now.
-ghost use Rattle.std.specs.Prelude.{◌≡◌, ◌≤◌, [], IfSome, Some};
+ghost use Rattle.std.specs.Prelude.{◌≡◌, ◌≤◌, [], Some};
 ghost use Rattle.uac_topology.specs.Function.{interface_in};
 ghost use Rattle.uac_request.specs.Owners.{owner_fields};
 ghost use Rattle.uac_request.specs.Requests as spec;
 ghost use Rattle.uac_request.specs.Requests.{request_state};
 
 use crate::bytes::{push_number, push_value};
-use crate::controls::{entity_width, map_bytes};
+use crate::controls::{StreamControl, map_bytes, stream_control_of};
 use crate::owner::Owner;
 use crate::reply::Reply;
 use crate::setup::{Setup, high_byte, key_named};
 use crate::valid::valid_map;
 use uac_alt::Settings;
-use uac_store::selectors::{AS_ACT_ALT_SETTING_CONTROL, CS_CLOCK_VALID_CONTROL};
+use uac_store::controls::{Control, control_of, facts_of};
 use uac_store::{Key, Store};
-use uac_topology::{Entity, EntityKind, Function, StreamInterface};
+use uac_topology::{Entity, Function, StreamInterface};
 
 /// Writes the bytes of a control's value now, whole.
 #[tactic(auto, unfolding(crate::specs::Requests::cur_bytes), using(crate::proofs::RequestsOwnerLemmas::stream_named))]
@@ -45,22 +45,35 @@ pub(crate) fn write_cur(
     }
 }
 
-// A clock source is always valid, and all other controls of entities keep a value.
+// The value of the control that a selector names; nothing where it names none.
 fn write_entity(reply: &mut Reply, entity: &Entity, store: &Store, key: Key)
     requires { reply.old.items ≡ [] }
     ensures { reply.new.items ≡ spec.entity_bytes entity.now.kind entity.now store.now key }
 {
-    match entity.kind {
-        EntityKind::InputTerminal | EntityKind::OutputTerminal => write_connector(reply, entity),
-        EntityKind::ClockSource if key.selector == CS_CLOCK_VALID_CONTROL => reply.push(1),
-        EntityKind::ClockSource
-        | EntityKind::ClockSelector
-        | EntityKind::ClockMultiplier
-        | EntityKind::Mixer
-        | EntityKind::Selector
-        | EntityKind::Feature
-        | EntityKind::Effect => {
-            write_kept(reply, store, key, entity_width(entity.kind, key.selector));
+    if let Some(control) = control_of(entity.kind, key.selector) {
+        write_control(reply, entity, store, key, control);
+    }
+}
+
+// A clock source is always valid (Audio Class 2.0, 5.2.5.1.2), a terminal's connector is its cluster, and each other
+// control keeps a value.
+fn write_control(reply: &mut Reply, entity: &Entity, store: &Store, key: Key, control: Control)
+    requires { reply.old.items ≡ [] }
+    ensures { reply.new.items ≡ spec.control_bytes control entity.now store.now key }
+{
+    match control {
+        Control::ClockValid => reply.push(1),
+        Control::Connector => write_connector(reply, entity),
+        Control::SamplingFrequency
+        | Control::ClockSelector
+        | Control::Numerator
+        | Control::Denominator
+        | Control::MixerNode
+        | Control::Selector
+        | Control::Mute
+        | Control::Volume
+        | Control::Enable => {
+            write_kept(reply, store, key, facts_of(control).width);
         }
     }
 }
@@ -76,16 +89,17 @@ fn write_connector(reply: &mut Reply, entity: &Entity)
 }
 
 // The value that is kept, in the control's bytes.
-fn write_kept(reply: &mut Reply, store: &Store, key: Key, width: Option<u8>)
+fn write_kept(reply: &mut Reply, store: &Store, key: Key, width: u8)
     requires empty { reply.old.items ≡ [] }
-    requires narrow { IfSome width (λ bytes. bytes ≤ 6) }
+    requires narrow { width ≤ 6 }
     ensures { reply.new.items ≡ spec.kept_bytes store.now key width }
 {
     let value = store.cur(key).unwrap_or(0);
-    push_value(reply, width.unwrap_or(0), value);
+    push_value(reply, width, value);
 }
 
-// The active setting of an interface, or its valid settings.
+// The active setting of an interface, or its valid settings (Audio Class 2.0, 5.2.6); nothing where the selector names
+// neither.
 fn write_stream(
     reply: &mut Reply,
     function: &Function,
@@ -98,10 +112,10 @@ fn write_stream(
     requires stream { interface_in function.now stream.now.number ≡ Some stream.now }
     ensures { reply.new.items ≡ spec.stream_bytes function.now (request_state store.now settings.now) stream.now selector }
 {
-    if selector == AS_ACT_ALT_SETTING_CONTROL {
-        reply.push(settings.get(stream.number).unwrap_or(0));
-    } else {
-        write_valid(reply, function, store, stream);
+    match stream_control_of(selector) {
+        Some(StreamControl::ActiveSetting) => reply.push(settings.get(stream.number).unwrap_or(0)),
+        Some(StreamControl::ValidSettings) => write_valid(reply, function, store, stream),
+        None => {}
     }
 }
 

@@ -58,8 +58,8 @@ fn controls_word_of(spread: Spread, channel: u8) -> u8
     }
 }
 
-/// The bits of a control in a word of two bits for each selector.
-pub(crate) fn two_bits(word: u32, selector: u8) -> u32
+// The bits of a control in a word of two bits for each selector.
+fn two_bits(word: u32, selector: u8) -> u32
     requires { selector ≤ 2 }
     ensures { result ≡ word / 4 ^ (selector - 1) % 4 }
 {

@@ -1,5 +1,5 @@
 -- Each kind has the selectors 1 and 2 alone.
-use Rattle.std.proofs.Common.{◌≡◌, sym, subst, refl, ℕ, zero, suc, ◌*◌, ◌≤◌, ◌<◌, ◌==◌, nat_lt, nat_le, Bool, true, false, List, [], ◌∷◌, Option, Some, None, is_some, ◌⊎◌, inl, inr, arith}
+use Rattle.std.proofs.Common.{◌≡◌, sym, subst, refl, ap, ◌∙◌, ℕ, zero, suc, ◌*◌, ◌≤◌, ◌<◌, ◌==◌, nat_lt, nat_le, Bool, true, false, List, [], ◌∷◌, Option, Some, None, is_some, ◌⊎◌, inl, inr, arith}
 use Rattle.std.specs.List.{AllByRecursion}
 use Rattle.std.specs.Option.{option_map, option_map_or}
 use Rattle.std.proofs.lemmas.Bool.{cases_Bool, eqb-true}
@@ -8,6 +8,7 @@ use Rattle.uac_entities.specs.declared.entity.EntityKind.TheVariants as kind
 use Rattle.uac_store.specs.declared.controls.Control.{Control}
 use Rattle.uac_store.specs.declared.controls.Control.TheVariants as control
 use Rattle.uac_store.specs.declared.controls.Facts.{Facts}
+use Rattle.uac_store.specs.declared.controls.Start.TheVariants as start
 use Rattle.uac_store.specs.ControlTable.{at_selector, control_of, controls_by, count_by, facts_at, facts_of, selectors_of}
 
 -- what stands in a row at a selector has one of the row's selectors
@@ -40,18 +41,44 @@ none_in_row c (r ∷ row) selector each is = elim (cases_Bool (r.0 == selector))
   | inr other ↦ none_in_row c row selector each.1 (rw other at is)
 ]
 
+-- a mixer's nodes alone start by node
+node_alone : (c : Control) → (facts_of c).start ≡ start.ByNode → c ≡ control.MixerNode
+node_alone control.SamplingFrequency is = cc
+node_alone control.ClockValid is = cc
+node_alone control.ClockSelector is = cc
+node_alone control.Numerator is = cc
+node_alone control.Denominator is = cc
+node_alone control.Connector is = cc
+node_alone control.MixerNode is = refl
+node_alone control.Selector is = cc
+node_alone control.Mute is = cc
+node_alone control.Volume is = cc
+node_alone control.Enable is = cc
+
 -- a mixer alone has nodes, and where it has one it puts out a channel
-pub has_outputs : (k : EntityKind) (selector inputs outputs channel : ℕ) → control_of k selector ≡ Some control.MixerNode → channel < count_by k (inputs * outputs) outputs → 0 < outputs
-has_outputs kind.ClockSource selector inputs outputs channel is within = absurd (none_in_row control.MixerNode (controls_by kind.ClockSource) selector (λ same. cc, (λ same. cc, tt)) is)
-has_outputs kind.ClockSelector selector inputs outputs channel is within = absurd (none_in_row control.MixerNode (controls_by kind.ClockSelector) selector (λ same. cc, tt) is)
-has_outputs kind.ClockMultiplier selector inputs outputs channel is within = absurd (none_in_row control.MixerNode (controls_by kind.ClockMultiplier) selector (λ same. cc, (λ same. cc, tt)) is)
-has_outputs kind.InputTerminal selector inputs outputs channel is within = absurd (none_in_row control.MixerNode (controls_by kind.InputTerminal) selector (λ same. cc, tt) is)
-has_outputs kind.OutputTerminal selector inputs outputs channel is within = absurd (none_in_row control.MixerNode (controls_by kind.OutputTerminal) selector (λ same. cc, tt) is)
-has_outputs kind.Mixer selector inputs zero channel is within = absurd (omega arith)
-has_outputs kind.Mixer selector inputs (suc outputs) channel is within = omega arith
-has_outputs kind.Selector selector inputs outputs channel is within = absurd (none_in_row control.MixerNode (controls_by kind.Selector) selector (λ same. cc, tt) is)
-has_outputs kind.Feature selector inputs outputs channel is within = absurd (none_in_row control.MixerNode (controls_by kind.Feature) selector (λ same. cc, (λ same. cc, tt)) is)
-has_outputs kind.Effect selector inputs outputs channel is within = absurd (none_in_row control.MixerNode (controls_by kind.Effect) selector (λ same. cc, tt) is)
+node_has_outputs : (k : EntityKind) (selector inputs outputs channel : ℕ) → control_of k selector ≡ Some control.MixerNode → channel < count_by k (inputs * outputs) outputs → 0 < outputs
+node_has_outputs kind.ClockSource selector inputs outputs channel is within = absurd (none_in_row control.MixerNode (controls_by kind.ClockSource) selector (λ same. cc, (λ same. cc, tt)) is)
+node_has_outputs kind.ClockSelector selector inputs outputs channel is within = absurd (none_in_row control.MixerNode (controls_by kind.ClockSelector) selector (λ same. cc, tt) is)
+node_has_outputs kind.ClockMultiplier selector inputs outputs channel is within = absurd (none_in_row control.MixerNode (controls_by kind.ClockMultiplier) selector (λ same. cc, (λ same. cc, tt)) is)
+node_has_outputs kind.InputTerminal selector inputs outputs channel is within = absurd (none_in_row control.MixerNode (controls_by kind.InputTerminal) selector (λ same. cc, tt) is)
+node_has_outputs kind.OutputTerminal selector inputs outputs channel is within = absurd (none_in_row control.MixerNode (controls_by kind.OutputTerminal) selector (λ same. cc, tt) is)
+node_has_outputs kind.Mixer selector inputs zero channel is within = absurd (omega arith)
+node_has_outputs kind.Mixer selector inputs (suc outputs) channel is within = omega arith
+node_has_outputs kind.Selector selector inputs outputs channel is within = absurd (none_in_row control.MixerNode (controls_by kind.Selector) selector (λ same. cc, tt) is)
+node_has_outputs kind.Feature selector inputs outputs channel is within = absurd (none_in_row control.MixerNode (controls_by kind.Feature) selector (λ same. cc, (λ same. cc, tt)) is)
+node_has_outputs kind.Effect selector inputs outputs channel is within = absurd (none_in_row control.MixerNode (controls_by kind.Effect) selector (λ same. cc, tt) is)
+
+-- what starts by node is on an entity that puts out a channel
+pub has_outputs : (k : EntityKind) (selector inputs outputs channel : ℕ) (f : Facts) → facts_at k selector ≡ Some f → f.start ≡ start.ByNode
+    → channel < count_by k (inputs * outputs) outputs → 0 < outputs
+has_outputs k selector inputs outputs channel f is by_node within = from (control_of k selector) refl is
+  where
+    from : (o : Option Control) → control_of k selector ≡ o → option_map facts_of o ≡ Some f → 0 < outputs
+    from None at is = cc
+    from (Some c) at is =
+        let facts : facts_of c ≡ f = cc in
+        let node : c ≡ control.MixerNode = node_alone c (ap (λ (x : Facts). x.start) facts ∙ by_node) in
+        node_has_outputs k selector inputs outputs channel (at ∙ ap Some node) within
 
 -- where something is so of a control there is one
 pub some_so : (test : Facts → Bool) (k : EntityKind) (selector : ℕ) → option_map_or test (facts_at k selector) false ≡ true → is_some (control_of k selector) ≡ true

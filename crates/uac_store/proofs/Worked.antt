@@ -11,7 +11,7 @@ use Rattle.uac_store.specs.declared.controls.Control.{Control}
 use Rattle.uac_store.specs.declared.controls.Control.TheVariants as control
 use Rattle.uac_store.specs.declared.keys.Key.{Key}
 use Rattle.uac_store.specs.declared.keys.Range.{Range}
-use Rattle.uac_store.specs.ControlTable.{facts_of, stores_value, ranges_as, selectors_of}
+use Rattle.uac_store.specs.ControlTable.{facts_of, stores_value, ranges_in, selectors_of}
 use Rattle.uac_store.specs.Keyed.{key_of, value_of, with_value}
 use Rattle.uac_store.specs.StoreControls.{pins_of, count_of, node_start, start_of, first_channels, channel_controls, controls_of, initial_controls, has_on, has_control, takes_on, takes}
 use Rattle.uac_store.specs.Rates.{source_rate, chosen_source, multiplier_rate, rate_step, rate_within, rate_of}
@@ -20,7 +20,7 @@ use Rattle.uac_store.specs.StoreValues.{ranges_of, are_clocked, is_legal}
 -- ---- the table
 
 -- a control answers RANGE exactly where it has subranges
-ranged_where_ranges : (c : Control) (pins attributes : ℕ) → (facts_of c).ranged ≡ is_some (ranges_as c pins attributes)
+ranged_where_ranges : (c : Control) (pins attributes : ℕ) → (facts_of c).ranged ≡ is_some (ranges_in (facts_of c).values pins attributes)
 ranged_where_ranges control.SamplingFrequency pins attributes = refl
 ranged_where_ranges control.ClockValid pins attributes = refl
 ranged_where_ranges control.ClockSelector pins attributes = refl

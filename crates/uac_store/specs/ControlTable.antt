@@ -11,6 +11,10 @@ use Rattle.uac_entities.specs.declared.entity.EntityKind.TheVariants as kind
 use Rattle.uac_store.specs.declared.controls.Control.{Control}
 use Rattle.uac_store.specs.declared.controls.Control.TheVariants as control
 use Rattle.uac_store.specs.declared.controls.Facts.{Facts}
+use Rattle.uac_store.specs.declared.controls.Start.{Start}
+use Rattle.uac_store.specs.declared.controls.Start.TheVariants as start
+use Rattle.uac_store.specs.declared.controls.ValueSet.{ValueSet}
+use Rattle.uac_store.specs.declared.controls.ValueSet.TheVariants as set
 use Rattle.uac_store.specs.declared.controls.Spread.{Spread}
 use Rattle.uac_store.specs.declared.controls.Spread.TheVariants as spread
 use Rattle.uac_store.specs.declared.keys.Range.{Range}
@@ -41,19 +45,31 @@ abbrev pub control_of : EntityKind → ℕ → Option Control
 control_of k selector = at_selector (controls_by k) selector
 
 -- of each control the bytes of its value (5.2.5.1 to 5.2.5.8; profile: those of pins, numerators, denominators and connectors) and whether
--- that is signed; whether a value is kept, or told by the descriptor; whether it answers RANGE (5.2.1); and whether a host may ever set it
+-- that is signed; whether a value is kept, or the control only read; whether it answers RANGE (5.2.1); whether a host may ever set it; its
+-- value at the start, in its own units, where 0 stands if none is kept (profile); and the values that it takes
 abbrev pub facts_of : Control → Facts
-facts_of control.SamplingFrequency = record { width = 4; signed = false; kept = true; ranged = true; settable = true }
-facts_of control.ClockValid = record { width = 1; signed = false; kept = false; ranged = false; settable = false }
-facts_of control.ClockSelector = record { width = 1; signed = false; kept = true; ranged = true; settable = true }
-facts_of control.Numerator = record { width = 2; signed = false; kept = true; ranged = true; settable = true }
-facts_of control.Denominator = record { width = 2; signed = false; kept = true; ranged = true; settable = true }
-facts_of control.Connector = record { width = 6; signed = false; kept = false; ranged = false; settable = false }
-facts_of control.MixerNode = record { width = 2; signed = true; kept = true; ranged = true; settable = true }
-facts_of control.Selector = record { width = 1; signed = false; kept = true; ranged = true; settable = true }
-facts_of control.Mute = record { width = 1; signed = false; kept = true; ranged = false; settable = true }
-facts_of control.Volume = record { width = 2; signed = true; kept = true; ranged = true; settable = true }
-facts_of control.Enable = record { width = 1; signed = false; kept = true; ranged = false; settable = true }
+facts_of control.SamplingFrequency =
+    record { width = 4; signed = false; kept = true; ranged = true; settable = true; start = start.At (pos 48000); values = set.Rates }
+facts_of control.ClockValid =
+    record { width = 1; signed = false; kept = false; ranged = false; settable = false; start = start.At (pos 0); values = set.ReadOnly }
+facts_of control.ClockSelector =
+    record { width = 1; signed = false; kept = true; ranged = true; settable = true; start = start.At (pos 1); values = set.Pins }
+facts_of control.Numerator =
+    record { width = 2; signed = false; kept = true; ranged = true; settable = true; start = start.At (pos 1); values = set.Factors }
+facts_of control.Denominator =
+    record { width = 2; signed = false; kept = true; ranged = true; settable = true; start = start.At (pos 1); values = set.Factors }
+facts_of control.Connector =
+    record { width = 6; signed = false; kept = false; ranged = false; settable = false; start = start.At (pos 0); values = set.ReadOnly }
+facts_of control.MixerNode =
+    record { width = 2; signed = true; kept = true; ranged = true; settable = true; start = start.ByNode; values = set.Volumes }
+facts_of control.Selector =
+    record { width = 1; signed = false; kept = true; ranged = true; settable = true; start = start.At (pos 1); values = set.Pins }
+facts_of control.Mute =
+    record { width = 1; signed = false; kept = true; ranged = false; settable = true; start = start.At (pos 0); values = set.Switch }
+facts_of control.Volume =
+    record { width = 2; signed = true; kept = true; ranged = true; settable = true; start = start.At (pos 0); values = set.Volumes }
+facts_of control.Enable =
+    record { width = 1; signed = false; kept = true; ranged = false; settable = true; start = start.At (pos 0); values = set.Switch }
 
 -- what the controls of a kind are on: the entity as a whole, the master and each channel (4.7.2.8, 4.7.2.10), or each node of a mixer
 abbrev pub spread_of : EntityKind → Spread
@@ -107,23 +123,14 @@ IsSmall k inputs outputs = IsSmallOn (spread_of k) inputs outputs
 
 -- ---- their values
 
--- profile: the value of a control at the start, a node's as given; 0 stands where no value is kept, and nothing reads it
-abbrev pub start_as : Control → ℤ → ℤ
-start_as control.SamplingFrequency node = pos 48000
-start_as control.ClockValid node = pos 0
-start_as control.ClockSelector node = pos 1
-start_as control.Numerator node = pos 1
-start_as control.Denominator node = pos 1
-start_as control.Connector node = pos 0
-start_as control.MixerNode node = node
-start_as control.Selector node = pos 1
-start_as control.Mute node = pos 0
-start_as control.Volume node = pos 0
-start_as control.Enable node = pos 0
+-- the value at the start that a row tells, a node's as given
+abbrev pub start_in : Start → ℤ → ℤ
+start_in (start.At value) node = value
+start_in start.ByNode node = node
 
 -- the value at the start of the control with a selector; 0 where there is none
 abbrev pub start_by : EntityKind → ℕ → ℤ → ℤ
-start_by k selector node = option_map_or (λ c. start_as c node) (control_of k selector) (pos 0)
+start_by k selector node = option_map_or (λ f. start_in f.start node) (facts_at k selector) (pos 0)
 
 -- a whole number from 1 to this
 abbrev pub is_one_to : ℕ → ℤ → Bool
@@ -144,23 +151,18 @@ abbrev pub is_frequency : ℕ → ℤ → Bool
 is_frequency attributes (pos n) = if nat_lt (attributes % 4) 2 then n == 48000 else is_listed n
 is_frequency attributes _ = false
 
--- the values that a control takes, of an entity with so many pins and these attributes
-abbrev pub takes_as : Control → ℕ → ℕ → ℤ → Bool
-takes_as control.SamplingFrequency pins attributes v = is_frequency attributes v
-takes_as control.ClockValid pins attributes v = false
-takes_as control.ClockSelector pins attributes v = is_pin pins v
-takes_as control.Numerator pins attributes v = is_one_to 8 v
-takes_as control.Denominator pins attributes v = is_one_to 8 v
-takes_as control.Connector pins attributes v = false
-takes_as control.MixerNode pins attributes v = is_some (gain_of v)
-takes_as control.Selector pins attributes v = is_pin pins v
-takes_as control.Mute pins attributes v = is_switch v
-takes_as control.Volume pins attributes v = is_some (gain_of v)
-takes_as control.Enable pins attributes v = is_switch v
+-- the value is one of a set, of an entity with so many pins and these attributes
+abbrev pub is_among : ValueSet → ℕ → ℕ → ℤ → Bool
+is_among set.Rates pins attributes v = is_frequency attributes v
+is_among set.Pins pins attributes v = is_pin pins v
+is_among set.Factors pins attributes v = is_one_to 8 v
+is_among set.Volumes pins attributes v = is_some (gain_of v)
+is_among set.Switch pins attributes v = is_switch v
+is_among set.ReadOnly pins attributes v = false
 
 -- a value of the control with a selector is one that it can take
 abbrev pub takes_by : EntityKind → ℕ → ℕ → ℕ → ℤ → Bool
-takes_by k pins attributes selector v = option_map_or (λ c. takes_as c pins attributes v) (control_of k selector) false
+takes_by k pins attributes selector v = option_map_or (λ f. is_among f.values pins attributes v) (facts_at k selector) false
 
 -- one subrange
 abbrev pub one_range : ℤ → ℤ → ℤ → Option (List Range)
@@ -178,20 +180,15 @@ frequencies attributes = if nat_lt (attributes % 4) 2 then 48000 ∷ [] else twe
 abbrev pub volumes : List Range
 volumes = record { min = negsuc 24575; max = negsuc 8447; res = pos 256 } ∷ record { min = negsuc 8191; max = pos 3072; res = pos 128 } ∷ []
 
--- the subranges of a control, in its own units
-abbrev pub ranges_as : Control → ℕ → ℕ → Option (List Range)
-ranges_as control.SamplingFrequency pins attributes = Some (map alone (frequencies attributes))
-ranges_as control.ClockValid pins attributes = None
-ranges_as control.ClockSelector pins attributes = one_range (pos 1) (pos pins) (pos 1)
-ranges_as control.Numerator pins attributes = one_range (pos 1) (pos 8) (pos 1)
-ranges_as control.Denominator pins attributes = one_range (pos 1) (pos 8) (pos 1)
-ranges_as control.Connector pins attributes = None
-ranges_as control.MixerNode pins attributes = Some volumes
-ranges_as control.Selector pins attributes = one_range (pos 1) (pos pins) (pos 1)
-ranges_as control.Mute pins attributes = None
-ranges_as control.Volume pins attributes = Some volumes
-ranges_as control.Enable pins attributes = None
+-- the subranges of a set of values, in the control's own units, if it is told by subranges
+abbrev pub ranges_in : ValueSet → ℕ → ℕ → Option (List Range)
+ranges_in set.Rates pins attributes = Some (map alone (frequencies attributes))
+ranges_in set.Pins pins attributes = one_range (pos 1) (pos pins) (pos 1)
+ranges_in set.Factors pins attributes = one_range (pos 1) (pos 8) (pos 1)
+ranges_in set.Volumes pins attributes = Some volumes
+ranges_in set.Switch pins attributes = None
+ranges_in set.ReadOnly pins attributes = None
 
 -- the subranges of the control with a selector; none where there is no such control, or it has none
 abbrev pub ranges_by : EntityKind → ℕ → ℕ → ℕ → Option (List Range)
-ranges_by k pins attributes selector = option_and_then (λ c. ranges_as c pins attributes) (control_of k selector)
+ranges_by k pins attributes selector = option_and_then (λ f. ranges_in f.values pins attributes) (facts_at k selector)

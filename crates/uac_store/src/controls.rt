@@ -45,39 +45,97 @@ pub struct Facts {
     pub width: u8,
     /// Whether a value of the control is signed.
     pub signed: bool,
-    /// Whether a value is kept, or told by the descriptor.
+    /// Whether a value is kept; the other controls are only read.
     pub kept: bool,
     /// Whether the control answers RANGE (5.2.1).
     pub ranged: bool,
     /// Whether a host may ever set the control.
     pub settable: bool,
+    /// What a kept value is at the start.
+    pub start: Start,
+    /// Which values the control takes, and the subranges that RANGE tells of them.
+    pub values: ValueSet,
 }
 
-/// A control that a host sets within ranges, of one byte.
-const RANGED: Facts = Facts {
+/// What a control has at the start (profile).
+#[derive(Clone, Copy, PartialEq, Eq, Debug)]
+pub enum Start {
+    /// This value: a frequency in Hz, a volume in 1/256 decibel, a pin from 1, a factor, or 0 and 1.
+    At(i32),
+    /// On a mixer's node 0 decibels where its input and its output are the same channel, else silence.
+    ByNode,
+}
+
+/// The values that a control takes.
+#[derive(Clone, Copy, PartialEq, Eq, Debug)]
+pub enum ValueSet {
+    /// The rates of a clock source, in Hz, by its attributes.
+    Rates,
+    /// The numbers of the entity's pins, from 1.
+    Pins,
+    /// 1 to 8 (profile).
+    Factors,
+    /// The volumes that have a gain, in 1/256 decibel.
+    Volumes,
+    /// 0 and 1.
+    Switch,
+    /// None: the control is only read.
+    ReadOnly,
+}
+
+/// The number of a pin.
+const PIN: Facts = Facts {
     width: 1,
     signed: false,
     kept: true,
     ranged: true,
     settable: true,
+    start: Start::At(1),
+    values: ValueSet::Pins,
 };
 
-/// A control that a host switches on and off.
+/// A numerator or a denominator.
+const FACTOR: Facts = Facts {
+    width: 2,
+    signed: false,
+    kept: true,
+    ranged: true,
+    settable: true,
+    start: Start::At(1),
+    values: ValueSet::Factors,
+};
+
+/// A volume.
+const GAIN: Facts = Facts {
+    width: 2,
+    signed: true,
+    kept: true,
+    ranged: true,
+    settable: true,
+    start: Start::At(0),
+    values: ValueSet::Volumes,
+};
+
+/// A switch.
 const SWITCH: Facts = Facts {
     width: 1,
     signed: false,
     kept: true,
     ranged: false,
     settable: true,
+    start: Start::At(0),
+    values: ValueSet::Switch,
 };
 
-/// A control that the descriptor tells, of one byte.
-const DECLARED: Facts = Facts {
+/// A control that is only read, of one byte.
+const READ_ONLY: Facts = Facts {
     width: 1,
     signed: false,
     kept: false,
     ranged: false,
     settable: false,
+    start: Start::At(0),
+    values: ValueSet::ReadOnly,
 };
 
 /// What the controls of a kind are on.
@@ -97,19 +155,27 @@ pub fn facts_of(control: Control) -> Facts
     ensures few { result.width ≤ 6 }
 {
     match control {
-        Control::SamplingFrequency => Facts { width: 4, ..RANGED },
-        Control::ClockSelector | Control::Selector => RANGED,
-        Control::Numerator | Control::Denominator => Facts { width: 2, ..RANGED },
-        Control::MixerNode | Control::Volume => Facts {
-            width: 2,
-            signed: true,
-            ..RANGED
+        Control::SamplingFrequency => Facts {
+            width: 4,
+            signed: false,
+            kept: true,
+            ranged: true,
+            settable: true,
+            start: Start::At(48000),
+            values: ValueSet::Rates,
         },
+        Control::ClockSelector | Control::Selector => PIN,
+        Control::Numerator | Control::Denominator => FACTOR,
+        Control::MixerNode => Facts {
+            start: Start::ByNode,
+            ..GAIN
+        },
+        Control::Volume => GAIN,
         Control::Mute | Control::Enable => SWITCH,
-        Control::ClockValid => DECLARED,
+        Control::ClockValid => READ_ONLY,
         Control::Connector => Facts {
             width: 6,
-            ..DECLARED
+            ..READ_ONLY
         },
     }
 }

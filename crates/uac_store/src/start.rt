@@ -1,13 +1,13 @@
 // The values at the start.
 ghost use Rattle.std.specs.Prelude.{◌≡◌, ℕ, ◌*◌, ◌<◌, ◌++◌, None, IfOk, OnOk, sum};
 ghost use Rattle.uac_store.specs.Keyed.{key_of, value_of};
-ghost use Rattle.uac_store.specs.declared.controls.Control.TheVariants as controls;
+ghost use Rattle.uac_store.specs.declared.controls.Start.TheVariants as starts;
 ghost use Rattle.uac_store.specs.ControlTable as table;
 ghost use Rattle.uac_store.specs.StoreControls as spec;
 ghost use Rattle.uac_store.specs.ControlTable.{IsSmall};
 ghost use Rattle.uac_store.specs.StoreControls.{IsKeyed, initial_controls, controls_of, channel_controls};
 
-use crate::controls::{Control, control_of, count_of, selectors_of};
+use crate::controls::{Start, count_of, facts_at, selectors_of};
 use crate::keys::Key;
 use indexmap::IndexMap;
 use std::alloc::Global;
@@ -80,26 +80,20 @@ fn start_of(entity: &Entity, selector: u8, pins: &[u8], channel: usize) -> i32
     requires { channel < table.count_by entity.now.kind (sum pins.now * entity.now.cluster.channels) entity.now.cluster.channels }
     ensures { result ≡ table.start_by entity.now.kind selector (spec.node_start pins.now entity.now.cluster.channels channel) }
 {
-    match control_of(entity.kind, selector) {
-        Some(control) => start_as(control, pins, entity.cluster.channels as usize, channel),
+    match facts_at(entity.kind, selector) {
+        Some(facts) => start_in(facts.start, pins, entity.cluster.channels as usize, channel),
         None => 0,
     }
 }
 
-// The value of a control at the start (profile).
-fn start_as(control: Control, pins: &[u8], outputs: usize, channel: usize) -> i32
-    requires { control ≡ controls.MixerNode → 0 < outputs }
-    ensures { result ≡ table.start_as control (spec.node_start pins.now outputs channel) }
+// The value at the start that a control's row tells.
+fn start_in(start: Start, pins: &[u8], outputs: usize, channel: usize) -> i32
+    requires { start ≡ starts.ByNode → 0 < outputs }
+    ensures { result ≡ table.start_in start (spec.node_start pins.now outputs channel) }
 {
-    match control {
-        Control::SamplingFrequency => 48000,
-        Control::ClockSelector | Control::Numerator | Control::Denominator | Control::Selector => 1,
-        Control::MixerNode => node_start(pins, outputs, channel),
-        Control::Mute
-        | Control::Volume
-        | Control::Enable
-        | Control::ClockValid
-        | Control::Connector => 0,
+    match start {
+        Start::At(value) => value,
+        Start::ByNode => node_start(pins, outputs, channel),
     }
 }
 

@@ -10,7 +10,7 @@ ghost use Rattle.uac_store.specs.Keyed.{value_of, with_value};
 ghost use Rattle.uac_store.specs.Rates.{rate_of};
 ghost use Rattle.uac_store.specs.StoreValues as spec;
 
-use crate::controls::{Control, control_of, count_of, selectors_of};
+use crate::controls::{ValueSet, count_of, facts_at, selectors_of};
 use crate::keys::{Key, Range, Ranges};
 use crate::rates::rate_within;
 use crate::store::Store;
@@ -83,14 +83,12 @@ fn ranges_on(entity: &Entity, selector: u8) -> Option<Ranges>
     ensures { option_map (λ ranges. ranges.items) result
         ≡ table.ranges_by entity.now.kind (length entity.now.sources) entity.now.attributes selector }
 {
-    match control_of(entity.kind, selector)? {
-        Control::SamplingFrequency => Some(frequencies(entity.attributes)),
-        Control::ClockSelector | Control::Selector => {
-            Some(one_range(1, entity.sources.as_slice().len() as i32, 1))
-        }
-        Control::Numerator | Control::Denominator => Some(one_range(1, i32::from(MOST_TIMES), 1)),
-        Control::MixerNode | Control::Volume => Some(volumes()),
-        Control::Mute | Control::Enable | Control::ClockValid | Control::Connector => None,
+    match facts_at(entity.kind, selector)?.values {
+        ValueSet::Rates => Some(frequencies(entity.attributes)),
+        ValueSet::Pins => Some(one_range(1, entity.sources.as_slice().len() as i32, 1)),
+        ValueSet::Factors => Some(one_range(1, i32::from(MOST_TIMES), 1)),
+        ValueSet::Volumes => Some(volumes()),
+        ValueSet::Switch | ValueSet::ReadOnly => None,
     }
 }
 
@@ -169,22 +167,23 @@ pub(crate) fn is_legal(function: &Function, store: &Store, change: Change) -> bo
 fn takes(entity: &Entity, selector: u8, value: i32) -> bool
     ensures { result ≡ controls.takes_on selector value entity.now }
 {
-    match control_of(entity.kind, selector) {
-        Some(control) => takes_as(control, entity, value),
+    match facts_at(entity.kind, selector) {
+        Some(facts) => is_among(facts.values, entity, value),
         None => false,
     }
 }
 
-fn takes_as(control: Control, entity: &Entity, value: i32) -> bool
-    ensures { result ≡ table.takes_as control (length entity.now.sources) entity.now.attributes value }
+// Whether a value is one of a set, of this entity.
+fn is_among(values: ValueSet, entity: &Entity, value: i32) -> bool
+    ensures { result ≡ table.is_among values (length entity.now.sources) entity.now.attributes value }
 {
-    match control {
-        Control::SamplingFrequency => is_frequency(entity.attributes, value),
-        Control::ClockSelector | Control::Selector => { is_pin(entity.sources.as_slice(), value) }
-        Control::Numerator | Control::Denominator => is_one_to(MOST_TIMES, value),
-        Control::MixerNode | Control::Volume => is_volume(value),
-        Control::Mute | Control::Enable => is_switch(value),
-        Control::ClockValid | Control::Connector => false,
+    match values {
+        ValueSet::Rates => is_frequency(entity.attributes, value),
+        ValueSet::Pins => is_pin(entity.sources.as_slice(), value),
+        ValueSet::Factors => is_one_to(MOST_TIMES, value),
+        ValueSet::Volumes => is_volume(value),
+        ValueSet::Switch => is_switch(value),
+        ValueSet::ReadOnly => false,
     }
 }
 
