@@ -18,6 +18,7 @@ use Rattle.uac_bands.specs.Bands.{EndsNear, HasTicked, HoldsBetween, HoldsEnough
 use Rattle.uac_bands.proofs.LevelsMicroframeLemmas.{IsPlacedAt, clock_goes, no_report, packet_frames, placed_at, slight_goes}
 use Rattle.uac_bands.proofs.FlowStreamsLemmas.{came_for, ended_out, fits_ring, got, got_is, got_stays, not_dry, not_zero, out_due, out_not_due, taken_by, ticks_played, waited_out}
 use Rattle.uac_bands.proofs.LifeSteadyLemmas.{HasEnded, HasEndedAt, enough, held_range, is_some_more, is_zero, no_feedback, primed_reported, priming_reported, reports_by, times_none}
+use Rattle.uac_streaming.proofs.RoomLemmas.{few_frames, some_frames}
 
 -- what the packet itself brings
 abbrev frames_in : Option (List ℕ) → OutStream → ℕ
@@ -59,13 +60,6 @@ not_below a b h = grind arith
 
 priming_least : (s : StreamFields) → IsPriming s.service (priming_level s)
 priming_least s = record { single = λ h. grind arith; longer = λ h. grind arith }
-
-low_enough : (s : StreamFields) → priming_level s ≤ 512
-low_enough s = by (nat_lt 1 s.service)
-  where
-    by : (b : Bool) → (if b then 512 else 256) ≤ 512
-    by true = omega arith
-    by false = omega arith
 
 module _ (l : Life) (packet : Option (List ℕ)) (step : ℕ) (band : InBand l) (given : IsSteadyMicroframe packet step l) where
   abbrev s : ℕ
@@ -149,7 +143,7 @@ module _ (l : Life) (packet : Option (List ℕ)) (step : ℕ) (band : InBand l) 
   fits_at : (o : Option ℕ) → l.out.target ≡ o → IsAt o l → is_due l.out.stream l.out.microframes ≡ true
       → out_level l.out + frames_in packet l.out ≤ 2048
   fits_at None is filling due =
-      let low = low_enough l.out.stream in
+      let low = few_frames l.out.stream in
       let frames = frames_fit due in
       let few = whole_packets values s (sum l.pace.used % 65536) values.f (omega arith) (omega (arith, room.below))
       (omega (arith, room.above)) in
@@ -563,13 +557,6 @@ module _ (l : Life) (packet : Option (List ℕ)) (step : ℕ) (band : InBand l) 
 starts_at : (s : ℕ) → IsInterval s → 0 % s ≡ 0
 starts_at s serves = let size = interval_size s serves in omega arith
 
-some_prime : (s : StreamFields) → 0 < priming_level s
-some_prime s = by (nat_lt 1 s.service)
-  where
-    by : (b : Bool) → 0 < (if b then 512 else 256)
-    by true = omega arith
-    by false = omega arith
-
 pub starts_in_band : StartsInBand
 starts_in_band stream steps reports nominal intervals =
     let start = starts_at stream.service intervals.serves in
@@ -583,7 +570,7 @@ starts_in_band stream steps reports nominal intervals =
       waits = refl;
       few = omega arith;
       at = record {
-        level = some_prime stream;
+        level = some_frames stream;
         value = refl;
         clock = sum steps % 65536;
         below = omega arith;

@@ -1,5 +1,5 @@
 -- The ring of a stream to the device within a microframe: where its packet was lost, the zeros that are due at the end fit.
-use Rattle.std.proofs.Common.{◌≡◌, ◌≢◌, ◌∙◌, sym, refl, ap, subst, arith, ℕ, suc, ◌+◌, ◌-◌, ◌*◌, ◌%◌, ◌≤◌, ◌==◌, ◌&&◌, Bool, true, false, if◌then◌else◌, cond, ℤ, pos, negsuc, List, [], ◌∷◌, ◌++◌, length, sum, Option, Some, None, is_some, inl, inr, length-append, nat_lt, replicate}
+use Rattle.std.proofs.Common.{◌≡◌, ◌≢◌, ◌∙◌, sym, refl, ap, subst, arith, ℕ, suc, ◌+◌, ◌-◌, ◌*◌, ◌%◌, ◌<◌, ◌≤◌, ◌==◌, ◌&&◌, Bool, true, false, if◌then◌else◌, cond, ℤ, pos, negsuc, List, [], ◌∷◌, ◌++◌, length, sum, Option, Some, None, is_some, inl, inr, length-append, nat_lt, replicate}
 use Rattle.std.specs.List.{All, find}
 use Rattle.std.specs.Option.{option_and_then, option_map_or}
 use Rattle.std.proofs.lemmas.Bool.{eqb-false, leb-true, ltb-true, true≢false}
@@ -44,6 +44,21 @@ few_in_all : (service microframes ticks : ℕ) → IsInterval service → ticks 
 few_in_all service microframes ticks serves = each_interval (λ s. ticks ≤ 27 * (microframes % s + 1) → ticks ≤ 216)
     (λ few. omega arith) (λ few. omega arith) (λ few. omega arith) (λ few. omega arith) service serves
 
+-- ---- the frames that prime a stream
+
+prime : (P : ℕ → Type 0) → P 256 → P 512 → (s : StreamFields) → P (priming_level s)
+prime P single longer s = by (nat_lt 1 s.service)
+  where
+    by : (b : Bool) → P (if b then 512 else 256)
+    by true = longer
+    by false = single
+
+pub some_frames : (s : StreamFields) → 0 < priming_level s
+some_frames = prime (λ n. 0 < n) (omega arith) (omega arith)
+
+pub few_frames : (s : StreamFields) → priming_level s ≤ 512
+few_frames = prime (λ n. n ≤ 512) (omega arith) (omega arith)
+
 -- ---- a stream within a microframe
 
 -- so many of its domain's ticks are still to be played. It is tight while the zeros for all ticks of its domain since it was last due have to
@@ -54,7 +69,7 @@ pub record IsWithin (loses : Bool) (left : ℕ) (o : OutStream) : Type 0 where
   pub taken : o.taken ≤ length o.arrived
   pub full : out_level o ≤ ring_frames
   pub fits : tight ≡ true → out_level o + o.ticks ≤ ring_frames + left
-  pub priming : tight ≡ true → o.target ≡ None → out_level o ≤ 511
+  pub priming : tight ≡ true → o.target ≡ None → out_level o < priming_level o.stream
   pub safe : tight ≡ false → (o.lost ≡ false) × (loses ≡ false)
   pub waits : is_due o.stream o.microframes ≡ false → (tight ≡ true) × (o.lost ≡ false)
   pub few : o.ticks ≤ 27 * (o.microframes % o.stream.service + 1)
@@ -161,7 +176,7 @@ tick_came loses left o is = by (is_some o.target) (out_level o == 0) refl refl
       taken = omega arith;
       full = omega arith;
       fits = λ _. omega (arith, few);
-      priming = λ _ _. omega arith;
+      priming = λ _ _. omega (arith, some_frames o.stream);
       safe = is.safe;
       waits = is.waits;
       few = is.few;
@@ -184,7 +199,7 @@ tick_came loses left o is = by (is_some o.target) (out_level o == 0) refl refl
       serves = is.serves;
       taken = is.taken;
       full = is.full;
-      fits = λ tight. omega (arith, few, is.priming tight (none_from o.target priming));
+      fits = λ tight. omega (arith, few, is.priming tight (none_from o.target priming), few_frames o.stream);
       priming = is.priming;
       safe = is.safe;
       waits = is.waits;
@@ -213,20 +228,13 @@ zeros_fit loses o is due = by o.lost refl is.tight refl
     by true lost false loose = absurd (true≢false (sym lost ∙ (is.safe loose).0))
     by false _ _ _ = omega (arith, is.full)
 
--- a stream that is still priming holds few frames
-low : (service : ℕ) → (if nat_lt 1 service then 512 else 256) ≤ 512
-low service = by (nat_lt 1 service)
-  where
-    by : (b : Bool) → (if b then 512 else 256) ≤ 512
-    by true = omega arith
-    by false = omega arith
-
-still_priming : (target : Option ℕ) (level : ℕ) (s : StreamFields) → target_after target level s ≡ None → level ≤ 511
+-- a stream that is still priming holds fewer frames than prime it
+still_priming : (target : Option ℕ) (level : ℕ) (s : StreamFields) → target_after target level s ≡ None → level < priming_level s
 still_priming (Some target) level s none = absurd (cc)
 still_priming None level s none = by (nat_lt level (priming_level s)) refl none
   where
-    by : (b : Bool) → nat_lt level (priming_level s) ≡ b → (if b then None else Some level) ≡ None → level ≤ 511
-    by true less _ = omega (arith, ltb-true _ _ less, low s.service)
+    by : (b : Bool) → nat_lt level (priming_level s) ≡ b → (if b then None else Some level) ≡ None → level < priming_level s
+    by true less _ = ltb-true _ _ less
     by false _ some = absurd (cc)
 
 -- the microframe ends for it

@@ -21,6 +21,7 @@ use Rattle.uac_device.specs.DeviceWorld.{DeviceWorld, resting_domain, after_cont
 use Rattle.uac_device.specs.DeviceKept.{IsDeviationInRange}
 use Rattle.uac_device.proofs.AltStreamsLemmas.{interval}
 use Rattle.uac_streaming.specs.Room.{HasRoom, HaveRoom}
+use Rattle.uac_streaming.proofs.RoomLemmas.{some_frames}
 use Rattle.uac_streaming.proofs.AmongLemmas.{kept_distinct}
 use Rattle.uac_streaming.proofs.RoomDeviceLemmas.{deviations_kept}
 
@@ -80,7 +81,7 @@ started_room s serves = record {
   taken = omega arith;
   waits = refl;
   level = omega arith;
-  priming = λ _. omega arith;
+  priming = λ _. omega (arith, some_frames s);
   few = omega arith;
 }
 
