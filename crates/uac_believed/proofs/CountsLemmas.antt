@@ -22,7 +22,8 @@ use Rattle.uac_device.specs.DeviceKept.{IsDeviationInRange}
 use Rattle.uac_mixer.specs.MixerElements.{fits_element}
 use Rattle.uac_mixer.specs.declared.link.When.{When}
 use Rattle.uac_mixer.specs.declared.link.When.TheVariants as when
-use Rattle.uac_script.specs.Phrase.{Phrase, nothing_line, bytes_line, go_line, control_line, get_line, set_line, show_line, break_line, append_line, track_line, jack_line, deviate_line, microframes_line, detail_line, report_line, is_id, is_in_range, is_within}
+use Rattle.uac_script.specs.Phrase.{Phrase, nothing_line, bytes_line, go_line, control_line, get_line, set_line, show_line, break_line, append_line, track_line, jack_line, deviate_line, microframes_line, detail_line, report_line, is_in_range}
+use Rattle.uac_lines.specs.Ranges.{is_id, is_within}
 use Rattle.uac_script.specs.Line.{Says}
 use Rattle.uac_script.specs.LineParsing.{answer}
 use Rattle.uac_script.proofs.LineParsingLemmas.{answer_says}

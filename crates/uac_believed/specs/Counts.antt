@@ -3,7 +3,7 @@
 use Rattle.std.specs.Prelude.{ℕ, ◌^◌, ◌<◌, ◌≤◌, List, map, length}
 use Rattle.std.specs.List.{All}
 use Rattle.uac_units.specs.Hearing.{Reading}
-use Rattle.uac_script.specs.ScriptLines.{most_of_input}
+use Rattle.uac_lines.specs.ScriptLines.{most_of_input}
 use Rattle.uac_script.specs.LineParsing.{answer}
 use Rattle.uac_transcript.specs.declared.report.StreamCounts.{StreamCounts}
 use Rattle.uac_running.specs.RunningWorld.{RunningWorld}

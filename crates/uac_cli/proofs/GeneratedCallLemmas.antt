@@ -4,7 +4,7 @@ use Rattle.std.specs.List.{AllByRecursion}
 use Rattle.std.proofs.lemmas.List.{append-nil}
 use Rattle.uac_gen.specs.Generator.{generated_lines}
 use Rattle.uac_gen.specs.GeneratedScript.{script_of}
-use Rattle.uac_script.specs.ScriptLines.{most_of_input, unended}
+use Rattle.uac_lines.specs.ScriptLines.{most_of_input, unended}
 use Rattle.uac_script.specs.LineParsing.{answer}
 use Rattle.uac_bus.specs.declared.fault.BusFault.{BusFault}
 use Rattle.uac_bus.specs.BusWorld.{BusWorld, finish_of}

@@ -18,8 +18,9 @@ use Rattle.uac_rate.specs.Steadiness.{is_slight}
 use Rattle.uac_edges.specs.Numerals.{natural, numeral}
 use Rattle.uac_edges.proofs.NumeralsLemmas.{decimal-natural}
 use Rattle.uac_script.specs.declared.line.MarkKind.TheVariants.{Out, Feedback}
-use Rattle.uac_script.specs.Words.{hex_of, words_of}
-use Rattle.uac_script.specs.Phrase.{PhraseMark, Phrase, noise_tone, bytes_line, go_line, control_line, track_line, deviate_line, microframes_line, report_line, are_marks_in_range, is_in_range, is_within}
+use Rattle.uac_lines.specs.Words.{hex_of, words_of}
+use Rattle.uac_script.specs.Phrase.{PhraseMark, Phrase, noise_tone, bytes_line, go_line, control_line, track_line, deviate_line, microframes_line, report_line, are_marks_in_range, is_in_range}
+use Rattle.uac_lines.specs.Ranges.{is_within}
 use Rattle.uac_script.specs.Line.{IsRow, mark_word}
 use Rattle.uac_script.specs.LineParsing.{answer}
 use Rattle.uac_script.proofs.LineParsingLemmas.{says_only}

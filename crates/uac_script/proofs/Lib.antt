@@ -1,11 +1,4 @@
-pub mod UnreadLemmas
-pub mod ScriptLinesLemmas
-pub mod ScriptLinesTakeLemmas
-pub mod WordsLemmas
-pub mod ScriptNumeralsLemmas
-pub mod LineParsingSetupLemmas
 pub mod WordsListLemmas
-pub mod ScriptNumeralsUniqueLemmas
 pub mod LineLemmas
 pub mod LineParsingLemmas
 pub mod LineUniqueLemmas

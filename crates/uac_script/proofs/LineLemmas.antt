@@ -1,24 +1,25 @@
 -- The table of lines, read and spelt: `row_of` reads exactly what `IsRow` allows.
 use Rattle.std.proofs.Common.{◌≡◌, ◌≢◌, ℕ, Bool, true, false, cond, ◌&&◌, ◌||◌, List, [], ◌∷◌, map, length, Option, Some, None, is_some, unwrap_or, ℤ, eqb, ◌⊎◌, inl, inr, sym, ap, ◌∙◌, refl, subst, codes}
 use Rattle.std.specs.List.{list_all, list_any}
-use Rattle.std.specs.Option.{option_map}
+use Rattle.std.specs.Option.{option_map, option_and_then}
 use Rattle.std.specs.Str.{bytes_eq}
 use Rattle.std.proofs.lemmas.Slice.Eq.{bytes_eq-Decides}
 use Rattle.std.proofs.lemmas.Bool.{and_parts, and_from, eqb-true, eq-eqb, cond-true, false≢true}
 use Rattle.std.proofs.lemmas.Option.{cond_some, same_Some}
 use Rattle.uac_script.specs.declared.line.MarkKind.{MarkKind}
 use Rattle.uac_script.specs.declared.line.MarkKind.TheVariants.{Out, In, Feedback}
-use Rattle.uac_script.specs.Words.{Word, hex_of}
+use Rattle.uac_lines.specs.Words.{Word, hex_of}
+use Rattle.uac_lines.specs.WordParsing.{only_of, pair_of, setup_bytes_in}
 use Rattle.uac_edges.specs.Numerals.{numeral}
-use Rattle.uac_script.specs.ScriptNumerals.{is_number, value_of}
+use Rattle.uac_lines.specs.ScriptNumerals.{is_number, value_of}
 use Rattle.uac_script.specs.Phrase.{PhraseTone, silent, ramp_tone, noise_tone, PhraseMark, Phrase, nothing_line, bytes_line, go_line, control_line, get_line, set_line, show_line, break_line, append_line, track_line, jack_line, deviate_line, microframes_line, detail_line, report_line}
 use Rattle.uac_script.specs.Line.{IsRow, tone_words, letter_of_mark, mark_word, letters}
-use Rattle.uac_script.specs.LineParsing.{when_empty, only_of, pair_of, then_of, name_in, from_number, bytes_line_of, setup_bytes_in, sent_of, control_line_of, set_line_of, element_line_of, break_line_at, break_line_of, append_line_of, ramp_of, tone_read, signal_of, track_line_of, jack_line_of, deviation_of, deviate_line_of, mark_kind_of, is_mark, mark_of, microframes_line_of, detail_line_of, row_of}
-use Rattle.uac_script.proofs.ScriptNumeralsUniqueLemmas.{is_number-numeral, value_of-numeral, numeral-value_of}
+use Rattle.uac_script.specs.LineParsing.{when_empty, name_in, from_number, bytes_line_of, sent_of, control_line_of, set_line_of, element_line_of, break_line_at, break_line_of, append_line_of, ramp_of, tone_read, signal_of, track_line_of, jack_line_of, deviation_of, deviate_line_of, mark_kind_of, is_mark, mark_of, microframes_line_of, detail_line_of, row_of}
+use Rattle.uac_lines.proofs.ScriptNumeralsUniqueLemmas.{is_number-numeral, value_of-numeral, numeral-value_of}
 
 -- ---- what a step of reading needs to give something
 
-then_some : {A B : Type 0} (f : A → Option B) (o : Option A) (y : B) → then_of f o ≡ Some y → (x : A) × (o ≡ Some x) × (f x ≡ Some y)
+then_some : {A B : Type 0} (f : A → Option B) (o : Option A) (y : B) → option_and_then f o ≡ Some y → (x : A) × (o ≡ Some x) × (f x ≡ Some y)
 then_some f None y h = cc
 then_some f (Some x) y h = (x, refl, h)
 
@@ -117,27 +118,27 @@ details_sound words p h =
     let parts = cond_some (is_number t.0) (detail_line (value_of t.0)) p t.2 in
     subst (λ q. IsRow ((118 ∷ []) ∷ words) q) parts.1 (ap (λ ws. (118 ∷ []) ∷ ws) (only_some words t.0 t.1 ∙ ap (λ w. w ∷ []) (numeral-value_of t.0 parts.0)))
 
-named_some : (words : List Word) (name : Word) → then_of name_in (only_of words) ≡ Some name → (words ≡ name ∷ []) × (name ≢ [])
+named_some : (words : List Word) (name : Word) → option_and_then name_in (only_of words) ≡ Some name → (words ≡ name ∷ []) × (name ≢ [])
 named_some words name h =
     let t = then_some name_in (only_of words) name h in
     let n = name_some t.0 name t.2 in
     (only_some words t.0 t.1 ∙ ap (λ w. w ∷ []) n.0, n.1)
 
-gets_sound : (verb : Word) (words : List Word) (p : Phrase) → verb ≡ codes "get" → option_map get_line (then_of name_in (only_of words)) ≡ Some p → Allows 104 (verb ∷ words) p
+gets_sound : (verb : Word) (words : List Word) (p : Phrase) → verb ≡ codes "get" → option_map get_line (option_and_then name_in (only_of words)) ≡ Some p → Allows 104 (verb ∷ words) p
 unfolding Allows
 gets_sound verb words p same h =
-    let m = map_some get_line (then_of name_in (only_of words)) p h in
+    let m = map_some get_line (option_and_then name_in (only_of words)) p h in
     let n = named_some words m.0 m.1 in
     subst (λ q. IsRow ((104 ∷ []) ∷ verb ∷ words) q) m.2 (ap (λ w. (104 ∷ []) ∷ w ∷ words) same ∙ ap (λ ws. (104 ∷ []) ∷ codes "get" ∷ ws) n.0, n.1)
 
-shows_sound : (verb : Word) (words : List Word) (p : Phrase) → verb ≡ codes "show" → option_map show_line (then_of name_in (only_of words)) ≡ Some p → Allows 104 (verb ∷ words) p
+shows_sound : (verb : Word) (words : List Word) (p : Phrase) → verb ≡ codes "show" → option_map show_line (option_and_then name_in (only_of words)) ≡ Some p → Allows 104 (verb ∷ words) p
 unfolding Allows
 shows_sound verb words p same h =
-    let m = map_some show_line (then_of name_in (only_of words)) p h in
+    let m = map_some show_line (option_and_then name_in (only_of words)) p h in
     let n = named_some words m.0 m.1 in
     subst (λ q. IsRow ((104 ∷ []) ∷ verb ∷ words) q) m.2 (ap (λ w. (104 ∷ []) ∷ w ∷ words) same ∙ ap (λ ws. (104 ∷ []) ∷ codes "show" ∷ ws) n.0, n.1)
 
-sets_sound : (verb : Word) (words : List Word) (p : Phrase) → verb ≡ codes "set" → then_of set_line_of (pair_of words) ≡ Some p → Allows 104 (verb ∷ words) p
+sets_sound : (verb : Word) (words : List Word) (p : Phrase) → verb ≡ codes "set" → option_and_then set_line_of (pair_of words) ≡ Some p → Allows 104 (verb ∷ words) p
 unfolding Allows
 sets_sound verb words p same h =
     let t = then_some set_line_of (pair_of words) p h in
@@ -155,11 +156,11 @@ sets_sound verb words p same h =
 element_sound : (words : List Word) (p : Phrase) → element_line_of words ≡ Some p → Allows 104 words p
 element_sound [] p h = cc
 element_sound (verb ∷ words) p h =
-    chosen (bytes_eq verb (codes "get")) (option_map get_line (then_of name_in (only_of words))) _ (Some p) h
+    chosen (bytes_eq verb (codes "get")) (option_map get_line (option_and_then name_in (only_of words))) _ (Some p) h
     (λ t x. gets_sound verb words p (same_word verb _ t) x)
-    (λ _ g. chosen (bytes_eq verb (codes "set")) (then_of set_line_of (pair_of words)) _ (Some p) g
+    (λ _ g. chosen (bytes_eq verb (codes "set")) (option_and_then set_line_of (pair_of words)) _ (Some p) g
     (λ t x. sets_sound verb words p (same_word verb _ t) x)
-    (λ _ g. chosen (bytes_eq verb (codes "show")) (option_map show_line (then_of name_in (only_of words))) None (Some p) g
+    (λ _ g. chosen (bytes_eq verb (codes "show")) (option_map show_line (option_and_then name_in (only_of words))) None (Some p) g
     (λ t x. shows_sound verb words p (same_word verb _ t) x)
     (λ _ x. cc)))
 
@@ -181,7 +182,7 @@ appends_sound (word ∷ sample ∷ samples) p h =
       λ empty. cc,
     )
 
-ramp_sound : (words : List Word) (v : PhraseTone) → then_of ramp_of (pair_of words) ≡ Some v → codes "ramp" ∷ words ≡ tone_words v
+ramp_sound : (words : List Word) (v : PhraseTone) → option_and_then ramp_of (pair_of words) ≡ Some v → codes "ramp" ∷ words ≡ tone_words v
 ramp_sound words v h =
     let t = then_some ramp_of (pair_of words) v h in
     let parts = cond_some (is_number t.0.0 && is_number t.0.1) (ramp_tone (value_of t.0.0) (value_of t.0.1)) v t.2 in
@@ -189,7 +190,7 @@ ramp_sound words v h =
     ap (λ ws. codes "ramp" ∷ ws) (pair_some words t.0 t.1 ∙ ap (λ w. w ∷ t.0.1 ∷ []) (numeral-value_of t.0.0 numbers.0) ∙ ap (λ w. numeral (value_of t.0.0) ∷ w ∷ []) (numeral-value_of t.0.1 numbers.1))
     ∙ ap tone_words parts.1
 
-noise_sound : (words : List Word) (v : PhraseTone) → then_of (from_number noise_tone) (only_of words) ≡ Some v → codes "noise" ∷ words ≡ tone_words v
+noise_sound : (words : List Word) (v : PhraseTone) → option_and_then (from_number noise_tone) (only_of words) ≡ Some v → codes "noise" ∷ words ≡ tone_words v
 noise_sound words v h =
     let t = then_some (from_number noise_tone) (only_of words) v h in
     let parts = cond_some (is_number t.0) (noise_tone (value_of t.0)) v t.2 in
@@ -203,9 +204,9 @@ voice_sound [] v h = cc
 voice_sound (kind ∷ words) v h =
     chosen (bytes_eq kind (codes "none")) (when_empty silent words) _ (Some v) h
     (λ t x. ap (λ w. w ∷ words) (same_word kind _ t) ∙ silent_sound words v x)
-    (λ _ g. chosen (bytes_eq kind (codes "ramp")) (then_of ramp_of (pair_of words)) _ (Some v) g
+    (λ _ g. chosen (bytes_eq kind (codes "ramp")) (option_and_then ramp_of (pair_of words)) _ (Some v) g
     (λ t x. ap (λ w. w ∷ words) (same_word kind _ t) ∙ ramp_sound words v x)
-    (λ _ g. chosen (bytes_eq kind (codes "noise")) (then_of (from_number noise_tone) (only_of words)) None (Some v) g
+    (λ _ g. chosen (bytes_eq kind (codes "noise")) (option_and_then (from_number noise_tone) (only_of words)) None (Some v) g
     (λ t x. ap (λ w. w ∷ words) (same_word kind _ t) ∙ noise_sound words v x)
     (λ _ x. cc)))
 
@@ -353,13 +354,13 @@ runs_read : (z : ℤ) (losses : List PhraseMark) → microframes_line_of (numera
 runs_read z losses = simp (is_number-numeral, value_of-numeral, marks_read, losses_read)
 
 setup_read : (head : Word) (setup : List ℕ) → hex_of head ≡ Some setup → length setup ≡ 8 → setup_bytes_in head ≡ Some setup
-setup_read head setup h eight = ap (then_of (λ bytes. cond (eqb (length bytes) 8) (Some bytes) None)) h ∙ cond-true _ _ _ (eq-eqb _ 8 eight)
+setup_read head setup h eight = ap (option_and_then (λ bytes. cond (eqb (length bytes) 8) (Some bytes) None)) h ∙ cond-true _ _ _ (eq-eqb _ 8 eight)
 
 controls_alone : (head : Word) (setup sent : List ℕ) → setup_bytes_in head ≡ Some setup → sent ≡ [] → control_line_of (head ∷ []) ≡ Some (control_line setup sent)
-controls_alone head setup sent h none = ap (then_of (λ setup. Some (control_line setup []))) h ∙ ap (λ bytes. Some (control_line setup bytes)) (sym none)
+controls_alone head setup sent h none = ap (option_and_then (λ setup. Some (control_line setup []))) h ∙ ap (λ bytes. Some (control_line setup bytes)) (sym none)
 
 controls_sending : (head digits : Word) (setup sent : List ℕ) → setup_bytes_in head ≡ Some setup → hex_of digits ≡ Some sent → control_line_of (head ∷ digits ∷ []) ≡ Some (control_line setup sent)
-controls_sending head digits setup sent h bytes = ap (then_of (λ setup. option_map (control_line setup) (hex_of digits))) h ∙ ap (option_map (control_line setup)) bytes
+controls_sending head digits setup sent h bytes = ap (option_and_then (λ setup. option_map (control_line setup) (hex_of digits))) h ∙ ap (option_map (control_line setup)) bytes
 
 pub row_complete : (words : List Word) (p : Phrase) → IsRow words p → IsRead words p
 row_complete words nothing_line h = absurd h

@@ -10,7 +10,7 @@ use Rattle.hex.proofs.HexLemmas.{decode_of-ok}
 use Rattle.std.specs.Result.{result_ok}
 use Rattle.uac_script.specs.declared.line.Line.{Line}
 use Rattle.uac_script.specs.declared.lent.LentLine.{LentLine}
-use Rattle.uac_script.specs.Words.{Word, words_of, is_idle, hex_of}
+use Rattle.uac_lines.specs.Words.{Word, words_of, is_idle, hex_of}
 use Rattle.uac_script.specs.Phrase.{Phrase, nothing_line, bytes_line, go_line, control_line, get_line, set_line, show_line, break_line, append_line, track_line, jack_line, deviate_line, microframes_line, detail_line, report_line, is_in_range}
 use Rattle.uac_script.specs.Line.{IsRow, SpellsLine, begins_known, phrase_of, HasNoEmptyPart, IsLineInRange, Says, IsOutOfRange, IsMisspelt, IsUnknown}
 use Rattle.uac_script.specs.Lent.{lent_phrase, lent_phrase_result, IsLentInRange}

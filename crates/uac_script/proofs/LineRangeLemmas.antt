@@ -7,7 +7,7 @@ use Rattle.std.proofs.lemmas.List.{length-map}
 use Rattle.arrayvec.specs.ArrayVec.{ArrayVec}
 use Rattle.uac_script.specs.declared.line.Mark.{Mark}
 use Rattle.uac_script.specs.declared.line.Line.TheVariants.{Deviate, Run, Detail}
-use Rattle.uac_script.specs.Phrase.{is_within, is_id}
+use Rattle.uac_lines.specs.Ranges.{is_within, is_id}
 use Rattle.uac_script.specs.Line.{IsLineInRange, phrase_mark}
 
 at_most : (least z : ℤ) → int_le least z ≡ true → least ≤ℤ z

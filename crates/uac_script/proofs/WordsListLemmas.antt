@@ -3,7 +3,7 @@ use Rattle.std.proofs.Common.{◌≡◌, ◌++◌, Bool, true, refl, List, [], �
 use Rattle.std.specs.List.{list_all}
 use Rattle.std.proofs.lemmas.List.Folds.{list_all-append}
 use Rattle.std.proofs.lemmas.Bool.{and_from}
-use Rattle.uac_script.specs.Words.{Word}
+use Rattle.uac_lines.specs.Words.{Word}
 
 pub next_taken : {A : Type 0} (f : Word → A) (all done new : List A) (left rest : List Word) (word : Word) (x : A)
     → all ≡ done ++ map f left → left ≡ word ∷ rest → x ≡ f word → new ≡ done ++ x ∷ [] → all ≡ new ++ map f rest

@@ -3,7 +3,7 @@ use Rattle.std.proofs.Common.{◌≡◌, true, false, [], ◌∷◌, Err, pos, n
 use Rattle.hex.proofs.OnLiterals.{hex_on_literals}
 use Rattle.uac_script.specs.declared.line.MarkKind.TheVariants.{Out, In, Feedback}
 use Rattle.uac_edges.specs.Numerals.{natural, numeral}
-use Rattle.uac_script.specs.ScriptNumerals.{is_natural, natural_of, number_of, is_number, value_of}
+use Rattle.uac_lines.specs.ScriptNumerals.{is_natural, natural_of, number_of, is_number, value_of}
 use Rattle.uac_script.specs.Phrase.{silent, ramp_tone, noise_tone, nothing_line, bytes_line, go_line, control_line, get_line, set_line, show_line, break_line, append_line, track_line, jack_line, deviate_line, microframes_line, detail_line, report_line}
 use Rattle.uac_script.specs.Line.{SpellsLine}
 use Rattle.uac_script.specs.LineParsing.{answer}

@@ -10,7 +10,7 @@ use Rattle.uac_script.specs.declared.line.Mark.{Mark}
 use Rattle.uac_script.specs.declared.line.Line.{Line}
 use Rattle.uac_script.specs.declared.line.Line.TheVariants.{Nothing, Bytes, Go, Control, Get, Set, Show, Break, Append, Track, Jack}
 use Rattle.uac_script.specs.declared.line.Line.TheVariants.{Deviate, Run, Detail, Report}
-use Rattle.uac_script.specs.Words.{Word, words_of, is_idle, hex_of}
+use Rattle.uac_lines.specs.Words.{Word, words_of, is_idle, hex_of}
 use Rattle.uac_edges.specs.Numerals.{numeral}
 use Rattle.uac_script.specs.Phrase.{PhraseTone, silent, ramp_tone, noise_tone, PhraseMark}
 use Rattle.uac_script.specs.Phrase.{Phrase, nothing_line, bytes_line, go_line, control_line, get_line, set_line, show_line, break_line}

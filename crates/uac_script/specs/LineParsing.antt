@@ -3,41 +3,27 @@
 use Rattle.std.specs.Prelude.{ℕ, ◌==◌, ◌&&◌, Bool, true, false, if◌then◌else◌, List, [], ◌∷◌, map, length, slice_index, codes, ℤ, pos}
 use Rattle.std.specs.Prelude.{Option, Some, None, is_some, unwrap_or, Result, Ok, Err}
 use Rattle.std.specs.List.{list_all}
-use Rattle.std.specs.Option.{option_map}
+use Rattle.std.specs.Option.{option_map, option_and_then}
 use Rattle.std.specs.Str.{bytes_eq}
 use Rattle.uac_pcm.specs.declared.tones.Tone.{Tone}
 use Rattle.uac_script.specs.declared.line.MarkKind.{MarkKind}
 use Rattle.uac_script.specs.declared.line.MarkKind.TheVariants.{Out, In, Feedback}
 use Rattle.uac_script.specs.declared.line.Line.{Line}
-use Rattle.uac_script.specs.Words.{Word, words_of, is_idle, hex_of}
-use Rattle.uac_script.specs.ScriptNumerals.{is_number, value_of}
+use Rattle.uac_lines.specs.Words.{Word, words_of, is_idle, hex_of}
+use Rattle.uac_lines.specs.WordParsing.{only_of, pair_of, setup_bytes_in}
+use Rattle.uac_lines.specs.ScriptNumerals.{is_number, value_of}
+use Rattle.uac_lines.specs.Ranges.{is_id, is_in_32_bits}
 use Rattle.uac_script.specs.Phrase.{PhraseTone, silent, ramp_tone, noise_tone, PhraseMark}
 use Rattle.uac_script.specs.Phrase.{Phrase, nothing_line, bytes_line, go_line, control_line, get_line, set_line, show_line, break_line}
-use Rattle.uac_script.specs.Phrase.{append_line, track_line, jack_line, deviate_line, microframes_line, detail_line, report_line, is_id}
-use Rattle.uac_script.specs.Phrase.{is_in_32_bits, is_tone_in_range}
+use Rattle.uac_script.specs.Phrase.{append_line, track_line, jack_line, deviate_line, microframes_line, detail_line, report_line}
+use Rattle.uac_script.specs.Phrase.{is_tone_in_range}
 use Rattle.uac_script.specs.Phrase.{is_in_range}
 use Rattle.uac_script.specs.Line.{phrase_of, phrase_tone_of}
 
--- nothing, or exactly one word
+-- this, where no word is left
 abbrev pub when_empty : {A : Type 0} → A → List Word → Option A
 when_empty x [] = Some x
 when_empty x (word ∷ words) = None
-
-abbrev pub only_of : List Word → Option Word
-only_of [] = None
-only_of (word ∷ []) = Some word
-only_of (word ∷ next ∷ words) = None
-
--- exactly two words
-abbrev pub pair_of : List Word → Option (Word × Word)
-pair_of [] = None
-pair_of (word ∷ []) = None
-pair_of (word ∷ next ∷ []) = Some (word, next)
-pair_of (word ∷ next ∷ third ∷ words) = None
-
-abbrev pub then_of : {A B : Type 0} → (A → Option B) → Option A → Option B
-then_of f None = None
-then_of f (Some x) = f x
 
 -- a name: any word but the empty one
 abbrev pub name_in : Word → Option Word
@@ -48,19 +34,16 @@ abbrev pub from_number : {A : Type 0} → (ℤ → A) → Word → Option A
 from_number f word = if is_number word then Some (f (value_of word)) else None
 
 abbrev pub bytes_line_of : List Word → Option Phrase
-bytes_line_of words = then_of (λ word. option_map bytes_line (hex_of word)) (only_of words)
-
-abbrev pub setup_bytes_in : Word → Option (List ℕ)
-setup_bytes_in word = then_of (λ bytes. if length bytes == 8 then Some bytes else None) (hex_of word)
+bytes_line_of words = option_and_then (λ word. option_map bytes_line (hex_of word)) (only_of words)
 
 -- the bytes sent: none, or one word of them
 abbrev pub sent_of : List Word → Option (List ℕ)
 sent_of [] = Some []
-sent_of (word ∷ words) = then_of hex_of (only_of (word ∷ words))
+sent_of (word ∷ words) = option_and_then hex_of (only_of (word ∷ words))
 
 abbrev pub control_line_of : List Word → Option Phrase
 control_line_of [] = None
-control_line_of (word ∷ words) = then_of (λ setup. option_map (control_line setup) (sent_of words)) (setup_bytes_in word)
+control_line_of (word ∷ words) = option_and_then (λ setup. option_map (control_line setup) (sent_of words)) (setup_bytes_in word)
 
 abbrev pub set_line_of : Word × Word → Option Phrase
 set_line_of (name, numeral) = if is_number numeral then option_map (λ word. set_line word (value_of numeral)) (name_in name) else None
@@ -68,9 +51,9 @@ set_line_of (name, numeral) = if is_number numeral then option_map (λ word. set
 abbrev pub element_line_of : List Word → Option Phrase
 element_line_of [] = None
 element_line_of (verb ∷ words) =
-    if bytes_eq verb (codes "get") then option_map get_line (then_of name_in (only_of words))
-    else if bytes_eq verb (codes "set") then then_of set_line_of (pair_of words)
-    else if bytes_eq verb (codes "show") then option_map show_line (then_of name_in (only_of words))
+    if bytes_eq verb (codes "get") then option_map get_line (option_and_then name_in (only_of words))
+    else if bytes_eq verb (codes "set") then option_and_then set_line_of (pair_of words)
+    else if bytes_eq verb (codes "show") then option_map show_line (option_and_then name_in (only_of words))
     else None
 
 abbrev pub break_line_at : Word → Option Phrase
@@ -80,7 +63,7 @@ break_line_at word =
     else None
 
 abbrev pub break_line_of : List Word → Option Phrase
-break_line_of words = then_of break_line_at (only_of words)
+break_line_of words = option_and_then break_line_at (only_of words)
 
 abbrev pub append_line_of : List Word → Option Phrase
 append_line_of [] = None
@@ -96,8 +79,8 @@ abbrev pub tone_read : List Word → Option PhraseTone
 tone_read [] = None
 tone_read (kind ∷ words) =
     if bytes_eq kind (codes "none") then when_empty silent words
-    else if bytes_eq kind (codes "ramp") then then_of ramp_of (pair_of words)
-    else if bytes_eq kind (codes "noise") then then_of (from_number noise_tone) (only_of words)
+    else if bytes_eq kind (codes "ramp") then option_and_then ramp_of (pair_of words)
+    else if bytes_eq kind (codes "noise") then option_and_then (from_number noise_tone) (only_of words)
     else None
 
 -- an id and its tone
@@ -115,7 +98,7 @@ abbrev pub deviation_of : Word × Word → Option Phrase
 deviation_of (domain, ppm) = if is_number domain && is_number ppm then Some (deviate_line (value_of domain) (value_of ppm)) else None
 
 abbrev pub deviate_line_of : List Word → Option Phrase
-deviate_line_of words = then_of deviation_of (pair_of words)
+deviate_line_of words = option_and_then deviation_of (pair_of words)
 
 abbrev pub mark_kind_of : ℕ → Option MarkKind
 mark_kind_of letter = if letter == 111 then Some Out else if letter == 105 then Some In else if letter == 102 then Some Feedback else None
@@ -135,7 +118,7 @@ microframes_line_of (word ∷ words) = if is_number word
     && list_all is_mark words then Some (microframes_line (value_of word) (map mark_of words)) else None
 
 abbrev pub detail_line_of : List Word → Option Phrase
-detail_line_of words = then_of (from_number detail_line) (only_of words)
+detail_line_of words = option_and_then (from_number detail_line) (only_of words)
 
 -- the row of this letter, read from the words after it; no row has another letter
 abbrev pub row_of : ℕ → List Word → Option (Option Phrase)

@@ -1,7 +1,8 @@
 -- Profile: what a line of the script says, with numbers of any size, and the ranges of these numbers.
-use Rattle.std.specs.Prelude.{ℕ, nat_le, ◌&&◌, Bool, true, List, length, ℤ, pos, negsuc, int_le}
+use Rattle.std.specs.Prelude.{ℕ, nat_le, ◌&&◌, Bool, true, List, length, ℤ, pos, negsuc}
 use Rattle.std.specs.List.{list_all}
-use Rattle.uac_script.specs.Words.{Word}
+use Rattle.uac_lines.specs.Words.{Word}
+use Rattle.uac_lines.specs.Ranges.{is_within, is_id, is_in_32_bits}
 use Rattle.uac_script.specs.declared.line.MarkKind.{MarkKind}
 
 -- a tone, with its numbers as they are spelt
@@ -32,18 +33,6 @@ pub data Phrase : Type 0 where
   microframes_line : ℤ → List PhraseMark → Phrase
   detail_line : ℤ → Phrase
   report_line : Phrase
-
--- the number lies between these two, or is one of them
-abbrev pub is_within : ℤ → ℤ → ℤ → Bool
-is_within least most z = int_le least z && int_le z most
-
--- an id of 0 to 255
-abbrev pub is_id : ℤ → Bool
-is_id z = is_within (pos 0) (pos 255) z
-
--- a signed number of 32 bits
-abbrev pub is_in_32_bits : ℤ → Bool
-is_in_32_bits z = is_within (negsuc 2147483647) (pos 2147483647) z
 
 abbrev pub is_tone_in_range : PhraseTone → Bool
 is_tone_in_range silent = true

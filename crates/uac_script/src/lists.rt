@@ -1,20 +1,21 @@
 // The rows of the table of lines that end in a list of words: samples, or marks.
-ghost use Rattle.std.specs.Prelude.{◌≡◌, ◌≤◌, ◌&&◌, true, false, length, Option, Some, None, map, MatchOption, IsTrue, IfSome, IfOk};
+ghost use Rattle.std.specs.Prelude.{◌≡◌, ◌≤◌, true, false, length, map, MatchOption, IsTrue, IfSome, IfOk};
 ghost use Rattle.std.specs.Option.{option_copied};
 ghost use Rattle.std.specs.List.{list_all};
-ghost use Rattle.uac_script.specs.Words.{words_left, bytes_left};
-ghost use Rattle.uac_script.specs.ScriptNumerals.{is_number};
+ghost use Rattle.uac_lines.specs.Words.{words_left, bytes_left};
+ghost use Rattle.uac_lines.specs.ScriptNumerals.{is_number};
+ghost use Rattle.uac_lines.specs.Ranges.{is_id};
 ghost use Rattle.uac_script.specs.LineParsing.{verdict_of, append_line_of, microframes_line_of, samples_of, mark_kind_of, is_mark, mark_of};
-ghost use Rattle.uac_script.specs.Phrase.{is_id, are_marks_in_range};
+ghost use Rattle.uac_script.specs.Phrase.{are_marks_in_range};
 ghost use Rattle.uac_script.specs.Line.{phrase_mark};
 ghost use Rattle.uac_script.specs.Lent.{lent_phrase_result, Fits};
 
 use crate::lent::LentLine;
 use crate::line::{Mark, MarkKind};
-use crate::numbers::{id, is_number, signed_number, within};
 use crate::rows::{MISSPELT, OUT_OF_RANGE};
-use crate::words::Words;
 use arrayvec::ArrayVec;
+use uac_lines::numbers::{id, is_number, signed_number, within};
+use uac_lines::words::Words;
 
 // Whether all the words are numbers.
 fn are_numbers(mut words: Words<'_>) -> bool

@@ -1,6 +1,6 @@
 // A whole line: its first word names the row.
-ghost use Rattle.std.specs.Prelude.{◌≡◌, ◌≤◌, ◌==◌, length, Ok, Err, IfOk};
-ghost use Rattle.uac_script.specs.Words.{words_left, bytes_left, is_idle};
+ghost use Rattle.std.specs.Prelude.{◌≡◌, ◌≤◌, length, IfOk};
+ghost use Rattle.uac_lines.specs.Words.{words_left, bytes_left, is_idle};
 ghost use Rattle.uac_script.specs.LineParsing.{phrase_result, row_verdict, row_of, answer};
 ghost use Rattle.uac_script.specs.Lent.{lent_phrase_result, Fits};
 
@@ -9,7 +9,7 @@ use crate::line::Line;
 use crate::lists::{append, run};
 use crate::owned::owned_line;
 use crate::rows::{alone, break_line_at, control, detail, deviate, element, feed, jack, track};
-use crate::words::Words;
+use uac_lines::words::Words;
 
 /// Rule S2: no row has this first word.
 const UNKNOWN: u8 = 2;

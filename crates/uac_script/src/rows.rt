@@ -1,22 +1,19 @@
 // The rows of the table of lines, each read from the words after the first one.
-ghost use Rattle.std.specs.Prelude.{◌≡◌, ◌≤◌, ◌==◌, length, Option, Some, None, IsTrue, IfSome, IfOk};
-ghost use Rattle.std.specs.Option.{option_copied};
-ghost use Rattle.uac_script.specs.Words.{words_left, bytes_left};
-ghost use Rattle.uac_script.specs.ScriptNumerals.{is_number};
-ghost use Rattle.uac_script.specs.LineParsing.{tone_result, signal_result, verdict_of, tone_verdict, signal_verdict, name_in, only_of};
-ghost use Rattle.uac_script.specs.LineParsing.{then_of};
-ghost use Rattle.uac_script.specs.LineParsing.{when_empty, bytes_line_of, control_line_of, element_line_of, break_line_of, tone_read};
-ghost use Rattle.uac_script.specs.LineParsing.{signal_of};
-ghost use Rattle.uac_script.specs.LineParsing.{track_line_of};
-ghost use Rattle.uac_script.specs.LineParsing.{jack_line_of, deviate_line_of, detail_line_of, set_line_of, pair_of, sent_of, ramp_of};
+ghost use Rattle.std.specs.Prelude.{◌≡◌, ◌≤◌, length, IsTrue, IfSome, IfOk};
+ghost use Rattle.std.specs.Option.{option_copied, option_and_then};
+ghost use Rattle.uac_lines.specs.Words.{words_left, bytes_left};
+ghost use Rattle.uac_lines.specs.WordParsing.{only_of, pair_of};
+ghost use Rattle.uac_script.specs.LineParsing.{tone_result, signal_result, verdict_of, tone_verdict, signal_verdict, name_in, when_empty};
+ghost use Rattle.uac_script.specs.LineParsing.{bytes_line_of, control_line_of, element_line_of, break_line_of, tone_read, signal_of};
+ghost use Rattle.uac_script.specs.LineParsing.{track_line_of, jack_line_of, deviate_line_of, detail_line_of, set_line_of, sent_of, ramp_of};
 ghost use Rattle.uac_script.specs.LineParsing.{from_number};
 ghost use Rattle.uac_script.specs.Phrase.{silent, noise_tone, is_in_range};
 ghost use Rattle.uac_script.specs.Lent.{lent_phrase, lent_phrase_result, Fits};
 
-use crate::hex_bytes::{bytes, setup};
 use crate::lent::LentLine;
-use crate::numbers::{id, is_number, signed_number, within};
-use crate::words::Words;
+use uac_lines::hex_bytes::{bytes, setup};
+use uac_lines::numbers::{id, is_number, signed_number, within};
+use uac_lines::words::Words;
 use uac_pcm::Tone;
 
 /// Rule S3: the words aren't as in the table.
@@ -99,7 +96,7 @@ fn name(word: &[u8]) -> Option<&[u8]>
 // The last word, as a name.
 fn last_name(words: Words<'_>) -> Option<&[u8]>
     requires { bytes_left words.rest ≤ 4097 }
-    ensures name { option_copied result ≡ then_of name_in (only_of (words_left words.entry.rest)) }
+    ensures name { option_copied result ≡ option_and_then name_in (only_of (words_left words.entry.rest)) }
     ensures fits { IfSome result (λ name. length name.now ≤ 4096) }
 {
     let word = words.only()?;
@@ -109,7 +106,7 @@ fn last_name(words: Words<'_>) -> Option<&[u8]>
 // Sets an element, by its name and the value.
 fn set(words: Words<'_>) -> Result<LentLine<'_>, u8>
     requires { bytes_left words.rest ≤ 4097 }
-    ensures says { lent_phrase_result result ≡ verdict_of (then_of set_line_of (pair_of (words_left words.entry.rest))) }
+    ensures says { lent_phrase_result result ≡ verdict_of (option_and_then set_line_of (pair_of (words_left words.entry.rest))) }
     ensures fits { IfOk result Fits }
 {
     let Some((word, numeral)) = words.pair() else {
@@ -198,7 +195,7 @@ fn silence(words: Words<'_>) -> Result<Tone, u8>
 
 // A straight line has its start and its step.
 fn ramp(words: Words<'_>) -> Result<Tone, u8>
-    ensures { tone_result result ≡ tone_verdict (then_of ramp_of (pair_of (words_left words.entry.rest))) }
+    ensures { tone_result result ≡ tone_verdict (option_and_then ramp_of (pair_of (words_left words.entry.rest))) }
 {
     let Some((start, step)) = words.pair() else {
         return Err(MISSPELT);
@@ -217,7 +214,7 @@ fn ramp(words: Words<'_>) -> Result<Tone, u8>
 
 // Noise has its seed.
 fn noise(words: Words<'_>) -> Result<Tone, u8>
-    ensures { tone_result result ≡ tone_verdict (then_of (from_number noise_tone) (only_of (words_left words.entry.rest))) }
+    ensures { tone_result result ≡ tone_verdict (option_and_then (from_number noise_tone) (only_of (words_left words.entry.rest))) }
 {
     let Some(seed) = words.only() else {
         return Err(MISSPELT);

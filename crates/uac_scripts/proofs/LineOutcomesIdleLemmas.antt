@@ -2,7 +2,7 @@
 use Rattle.std.proofs.Common.{◌≡◌, ℕ, true, List, Option, Result, Ok, refl, sym, subst}
 use Rattle.std.proofs.KnownBytes.{Appends-nil}
 use Rattle.uac_units.specs.Hearing.{Reading}
-use Rattle.uac_script.specs.Words.{is_idle}
+use Rattle.uac_lines.specs.Words.{is_idle}
 use Rattle.uac_script.specs.Phrase.{Phrase, nothing_line}
 use Rattle.uac_script.specs.LineParsing.{answer}
 use Rattle.uac_bus.specs.BusWorld.{BusWorld, describing, running, step}

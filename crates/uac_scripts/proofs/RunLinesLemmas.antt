@@ -6,15 +6,15 @@ use Rattle.uac_units.specs.Hearing.{Reading}
 use Rattle.uac_edges.specs.Faults.{Rose}
 use Rattle.uac_edges.specs.Memory.{raised_count}
 use Rattle.uac_edges.specs.Writing.{AppendsFront}
-use Rattle.uac_script.specs.ScriptLines.{line, long, past, unended, head_of, most_of_input, Splitting, Splits, StopsAtLine, Goes}
+use Rattle.uac_lines.specs.ScriptLines.{line, long, past, unended, head_of, most_of_input, Splitting, Splits, StopsAtLine, Goes}
 use Rattle.uac_script.specs.LineParsing.{answer}
-use Rattle.uac_script.specs.declared.lines.Next.{Next}
-use Rattle.uac_script.specs.declared.lines.Next.TheVariants as next
-use Rattle.uac_script.specs.declared.lines.LineStop.{LineStop}
-use Rattle.uac_script.specs.declared.lines.LineStop.TheVariants as stops
+use Rattle.uac_lines.specs.declared.lines.Next.{Next}
+use Rattle.uac_lines.specs.declared.lines.Next.TheVariants as next
+use Rattle.uac_lines.specs.declared.lines.LineStop.{LineStop}
+use Rattle.uac_lines.specs.declared.lines.LineStop.TheVariants as stops
 use Rattle.uac_edges.proofs.KnownBytesLemmas.{Consumes-none, Consumes-Consumes}
 use Rattle.uac_script.proofs.LineParsingLemmas.{answer_says}
-use Rattle.uac_script.proofs.ScriptLinesLemmas.{head_line-more}
+use Rattle.uac_lines.proofs.ScriptLinesLemmas.{head_line-more}
 use Rattle.uac_edges.proofs.WritingLemmas.{Appends-none}
 use Rattle.uac_transcript.proofs.PrintingLemmas.{Appends-lines, front_after, front_of_more}
 use Rattle.uac_bus.specs.declared.fault.BusFault.{BusFault}

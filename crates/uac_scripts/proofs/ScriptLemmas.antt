@@ -6,12 +6,12 @@ use Rattle.std.proofs.lemmas.Bool.{ne_eqb}
 use Rattle.std.proofs.lemmas.List.{length-take}
 use Rattle.std.proofs.lemmas.List.Sums.{position_or_len_is}
 use Rattle.uac_units.specs.Hearing.{Reading}
-use Rattle.uac_script.specs.ScriptLines.{line, head_of, most_of_input}
+use Rattle.uac_lines.specs.ScriptLines.{line, head_of, most_of_input}
 use Rattle.uac_script.specs.Line.{Says}
-use Rattle.uac_script.specs.Looking.{line_end}
+use Rattle.uac_lines.specs.Looking.{line_end}
 use Rattle.uac_script.specs.Phrase.{Phrase}
 use Rattle.uac_script.specs.LineParsing.{answer}
-use Rattle.uac_script.proofs.ScriptLinesLemmas.{head_line, line_end_in}
+use Rattle.uac_lines.proofs.ScriptLinesLemmas.{head_line, line_end_in}
 use Rattle.uac_script.proofs.SayingLemmas.{each_says_once}
 use Rattle.uac_bus.specs.declared.fault.BusFault.{BusFault}
 use Rattle.uac_bus.specs.BusWorld.{BusWorld, Step, done, refused, start}

@@ -2,9 +2,9 @@
 use Rattle.std.proofs.Common.{◌≡◌, ◌≢◌, ℕ, zero, suc, ◌+◌, ◌-◌, ◌<◌, ◌⊎◌, inl, inr, List, ◌++◌, length, Option, Some, refl, sym, ap, ◌∙◌, arith}
 use Rattle.std.specs.Io.KnownBytes.{Consumes}
 use Rattle.uac_units.specs.Hearing.{Reading}
-use Rattle.uac_script.specs.ScriptLines.{Head, line, long, past, unended, head_of, most_of_input}
+use Rattle.uac_lines.specs.ScriptLines.{Head, line, long, past, unended, head_of, most_of_input}
 use Rattle.uac_script.specs.LineParsing.{answer}
-use Rattle.uac_script.proofs.ScriptLinesLemmas.{head_line-more, head_long-more, head_past-more}
+use Rattle.uac_lines.proofs.ScriptLinesLemmas.{head_line-more, head_long-more, head_past-more}
 use Rattle.uac_transcript.specs.Transcript.{Said}
 use Rattle.uac_bus.specs.BusWorld.{BusWorld, Step, done, refused, start}
 use Rattle.uac_bus.specs.After.{said_step}

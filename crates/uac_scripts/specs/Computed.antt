@@ -1,7 +1,7 @@
 -- The transcript computed: what each text says is what the table's reading of it answers (profile).
 use Rattle.std.specs.Prelude.{◌≡◌, ◌↔◌, ℕ, ◌+◌, List, length}
 use Rattle.uac_units.specs.Hearing.{Reading}
-use Rattle.uac_script.specs.ScriptLines.{Head, most_of_input}
+use Rattle.uac_lines.specs.ScriptLines.{Head, most_of_input}
 use Rattle.uac_script.specs.LineParsing.{answer}
 use Rattle.uac_bus.specs.BusWorld.{BusWorld, start}
 use Rattle.uac_describe.specs.Outcome.{End}

@@ -2,8 +2,8 @@
 use Rattle.std.specs.Prelude.{◌≡◌, ℕ, Bool, List, Option, Result, IfErr, OnOk}
 use Rattle.uac_units.specs.Hearing.{Reading}
 use Rattle.uac_edges.specs.Faults.{Rose}
-use Rattle.uac_script.specs.declared.lines.LineStop.{LineStop}
-use Rattle.uac_script.specs.declared.lines.LineStop.TheVariants as stop
+use Rattle.uac_lines.specs.declared.lines.LineStop.{LineStop}
+use Rattle.uac_lines.specs.declared.lines.LineStop.TheVariants as stop
 use Rattle.uac_bus.specs.declared.fault.BusFault.{BusFault}
 use Rattle.uac_bus.specs.declared.fault.BusFault.TheVariants as faults
 use Rattle.uac_bus.specs.BusWorld.{Step}

@@ -3,7 +3,7 @@ use Rattle.std.specs.Prelude.{◌≡◌, ◌≢◌, ℕ, ◌+◌, ◌≤◌, ◌
 use Rattle.std.specs.Prelude.{Option, None, Some, Result, Ok, Err}
 use Rattle.std.specs.List.{All, AllByRecursion, AllZip}
 use Rattle.uac_edges.specs.TextLines.{with_newlines}
-use Rattle.uac_script.specs.ScriptLines.{most_of_line}
+use Rattle.uac_lines.specs.ScriptLines.{most_of_line}
 use Rattle.uac_script.specs.Phrase.{Phrase}
 use Rattle.uac_script.specs.Line.{Says}
 use Rattle.uac_units.specs.Hearing.{Reading}

@@ -1,7 +1,7 @@
 -- One call of the program, as its source and its sink see it (profile).
 use Rattle.std.specs.Prelude.{◌≡◌, ◌≢◌, ◌≤◌, ℕ, ◌+◌, ◌⊎◌, List, [], ◌++◌, length, Option, None, Some, codes}
 use Rattle.std.specs.Io.KnownBytes.{Consumes}
-use Rattle.uac_script.specs.ScriptLines.{most_of_input, script_piece}
+use Rattle.uac_lines.specs.ScriptLines.{most_of_input, script_piece}
 use Rattle.uac_units.specs.Hearing.{Reading}
 use Rattle.uac_scripts.specs.declared.jobs.SourceJob.{SourceJob}
 use Rattle.uac_scripts.specs.declared.jobs.SourceJob.TheVariants.{Describe, Run}

@@ -1,7 +1,7 @@
 -- What `run` comes to, from the bytes of the script that were taken and from why no more were (profile).
 use Rattle.std.specs.Prelude.{◌≡◌, ℕ, zero, suc, ◌+◌, ◌-◌, List, [], ◌∷◌, ◌++◌, length, Result, Ok, Err}
 use Rattle.uac_units.specs.Hearing.{Reading}
-use Rattle.uac_script.specs.ScriptLines.{Head, line, long, past, unended, head_of, most_of_input}
+use Rattle.uac_lines.specs.ScriptLines.{Head, line, long, past, unended, head_of, most_of_input}
 use Rattle.uac_script.specs.Line.{Says}
 use Rattle.uac_script.specs.Phrase.{Phrase}
 use Rattle.uac_transcript.specs.Transcript.{Said, says_misread, says_too_long}

@@ -3,7 +3,7 @@ ghost use Rattle.std.specs.Prelude.{◌≡◌, ◌≢◌, ℕ, ◌+◌, ◌-◌,
 ghost use Rattle.std.specs.List.{AllByRecursion, AllZip};
 ghost use Rattle.uac_units.specs.Hearing.{Reading};
 ghost use Rattle.uac_script.specs.Line.{Says};
-ghost use Rattle.uac_script.specs.ScriptLines.{most_of_input};
+ghost use Rattle.uac_lines.specs.ScriptLines.{most_of_input};
 ghost use Rattle.uac_script.specs.Phrase.{Phrase};
 ghost use Rattle.uac_script.specs.LineParsing.{answer};
 ghost use Rattle.uac_bus.specs.BusWorld.{start};

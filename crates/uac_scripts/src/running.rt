@@ -3,7 +3,7 @@ ghost use Rattle.std.specs.Prelude.{◌≡◌, ◌≢◌, ◌≤◌, false, [], 
 ghost use Rattle.std.specs.Io.KnownBytes.{IsAtEnd, Keeps};
 ghost use Rattle.uac_edges.specs.Faults.{Rose};
 ghost use Rattle.uac_script.specs.Lent.{lent_phrase_result, IsLentInRange};
-ghost use Rattle.uac_script.specs.ScriptLines.{most_of_input};
+ghost use Rattle.uac_lines.specs.ScriptLines.{most_of_input};
 ghost use Rattle.uac_script.specs.LineParsing.{answer};
 ghost use Rattle.uac_units.specs.Fitting.{IsFitted};
 ghost use Rattle.uac_units.specs.Hearing.{Reading};

@@ -27,7 +27,7 @@ use Rattle.uac_grammar.specs.Stop.{shown_fault}
 use Rattle.uac_script.specs.Phrase.{Phrase, nothing_line, bytes_line, go_line, control_line, get_line, set_line, show_line, break_line, append_line, track_line, jack_line, deviate_line, microframes_line, detail_line, report_line}
 use Rattle.uac_script.specs.Line.{IsRow, Says}
 use Rattle.uac_script.specs.LineParsing.{answer}
-use Rattle.uac_script.specs.Words.{Word, hex_of, is_idle, words_of}
+use Rattle.uac_lines.specs.Words.{Word, hex_of, is_idle, words_of}
 use Rattle.uac_script.proofs.LineParsingLemmas.{answer_says}
 use Rattle.uac_units.specs.Hearing.{Reading}
 use Rattle.uac_running.specs.RunningWorld.{at_start}

@@ -1,6 +1,6 @@
 use Rattle.std.proofs.Common.{◌≡◌}
 use Rattle.std.specs.List.{list_all}
-use Rattle.uac_script.specs.Words.{words_left, bytes_left}
+use Rattle.uac_lines.specs.Words.{words_left, bytes_left}
 use Rattle.uac_script.specs.LineParsing.{is_mark}
 use Rattle.uac_script.proofs.lists.are_marks.Given as goal
 

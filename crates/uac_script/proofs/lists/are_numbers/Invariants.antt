@@ -1,7 +1,7 @@
 use Rattle.std.proofs.Common.{◌≡◌}
 use Rattle.std.specs.List.{list_all}
-use Rattle.uac_script.specs.Words.{words_left, bytes_left}
-use Rattle.uac_script.specs.ScriptNumerals.{is_number}
+use Rattle.uac_lines.specs.Words.{words_left, bytes_left}
+use Rattle.uac_lines.specs.ScriptNumerals.{is_number}
 use Rattle.uac_script.proofs.lists.are_numbers.Given as goal
 
 abbrev pub invariant-loop-word : goal.invariant-loop-word

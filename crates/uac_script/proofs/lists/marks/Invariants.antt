@@ -1,9 +1,9 @@
 use Rattle.std.proofs.Common.{◌≡◌, ◌≤◌, ◌++◌, true, map, length}
 use Rattle.std.specs.List.{list_all}
-use Rattle.uac_script.specs.Words.{words_left, bytes_left}
+use Rattle.uac_lines.specs.Words.{words_left, bytes_left}
 use Rattle.uac_script.specs.LineParsing.{is_mark, mark_of}
 use Rattle.uac_script.specs.Line.{phrase_mark}
-use Rattle.uac_script.specs.Phrase.{is_id}
+use Rattle.uac_lines.specs.Ranges.{is_id}
 use Rattle.uac_script.proofs.lists.marks.Given as goal
 
 abbrev pub invariant-loop-word : goal.invariant-loop-word

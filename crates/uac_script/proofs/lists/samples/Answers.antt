@@ -4,12 +4,11 @@ use Rattle.std.proofs.lemmas.Int.{to_z-of_z}
 use mir.Val.{SFits, to_z, of_z}
 use mir.Syntax.{w32}
 use Rattle.uac_script.proofs.WordsListLemmas.{next_taken, all_taken}
-use Rattle.uac_script.specs.Phrase.{is_in_32_bits}
-use Rattle.uac_script.specs.ScriptNumerals.{value_of}
+use Rattle.uac_lines.specs.ScriptNumerals.{value_of, is_number}
+use Rattle.uac_lines.specs.Ranges.{is_in_32_bits}
 use Rattle.std.specs.List.{list_all}
-use Rattle.uac_script.specs.Words.{words_left}
-use Rattle.uac_script.specs.ScriptNumerals.{is_number}
-use Rattle.uac_script.proofs.ScriptNumeralsLemmas.{number_not_empty}
+use Rattle.uac_lines.specs.Words.{words_left}
+use Rattle.uac_lines.proofs.ScriptNumeralsLemmas.{number_not_empty}
 use Rattle.uac_script.proofs.lists.samples.Goals as goal
 
 pub loop-word-preserved : goal.loop-word-preserved

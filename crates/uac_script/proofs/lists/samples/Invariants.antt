@@ -1,8 +1,8 @@
 use Rattle.std.proofs.Common.{◌≡◌, ◌≤◌, ◌+◌, ◌*◌, ◌++◌, true, map, length}
 use Rattle.std.specs.List.{list_all}
-use Rattle.uac_script.specs.Words.{words_left, bytes_left}
-use Rattle.uac_script.specs.ScriptNumerals.{is_number, value_of}
-use Rattle.uac_script.specs.Phrase.{is_in_32_bits}
+use Rattle.uac_lines.specs.Words.{words_left, bytes_left}
+use Rattle.uac_lines.specs.ScriptNumerals.{is_number, value_of}
+use Rattle.uac_lines.specs.Ranges.{is_in_32_bits}
 use Rattle.uac_script.proofs.lists.samples.Given as goal
 
 abbrev pub invariant-loop-word : goal.invariant-loop-word

@@ -1,5 +1,5 @@
 use Rattle.std.proofs.Common.{◌∙◌}
-use Rattle.uac_script.specs.declared.lines.LineStop.TheVariants as stops
+use Rattle.uac_lines.specs.declared.lines.LineStop.TheVariants as stops
 use Rattle.uac_describe.proofs.AnsweredLemmas.{alone, read_fault_text}
 use Rattle.uac_scripts.proofs.RunLinesLemmas.{closes_stopped, too_long_text}
 use Rattle.uac_scripts.proofs.running.stop_lines.Goals as goal
