@@ -20,7 +20,7 @@ ghost use Rattle.uac_request.specs.Requests.{answer_fields};
 use crate::clocks::{DomainClock, advance, deviate};
 use crate::derived::Derived;
 use crate::hearing::hear;
-use crate::rest::{Moving, at_rest};
+use crate::rest::Rest;
 use crate::still::{begin_unless, put_unless};
 use crate::streams::{is_done, sets_interface, stream_asked};
 use crate::terminals::is_output_jack;
@@ -87,30 +87,27 @@ impl Device {
     pub fn new(alloc: Global, function: Function) -> Result<Device, NoMemory>
         ensures { IfOk result (λ device. DeviceStands device (fresh function)) }
     {
-        let store = Store::new(alloc, &function)?;
-        let settings = Settings::new(&function);
         each_interface_starts_with_a_setting();
-        let graph = Graph::build(alloc, &function)?;
-        let derived = Derived::new(alloc, &graph, &function, &store)?;
-        let Moving {
-            wires,
-            clocks,
-            device_streams,
-        } = at_rest(alloc, &function)?;
+        let rest = Rest::new(alloc, &function)?;
         Ok(Device {
+            settings: Settings::new(&function),
             function,
-            store,
-            settings,
-            graph,
-            derived,
-            wires,
-            clocks,
-            device_streams,
+            store: rest.store,
+            graph: rest.followed.graph,
+            derived: rest.followed.derived,
+            wires: rest.moving.wires,
+            clocks: rest.moving.clocks,
+            device_streams: rest.moving.device_streams,
         })
     }
 
-    /// Lets all go that the device holds. A caller that ends so needs no proof of its own of how each part is let go.
-    pub fn let_go(self) {}
+    /// Lets all go that the device holds: the three largest parts by calls, since a proof that has them all in one place takes several
+    /// times as long, and the rest at its end. A caller that ends so needs no proof of its own of how each part is let go.
+    pub fn let_go(self) {
+        drop(self.function);
+        drop(self.store);
+        drop(self.graph);
+    }
 
     /// The device's function.
     pub fn function(&self) -> &Function

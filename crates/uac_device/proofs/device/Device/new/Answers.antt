@@ -11,22 +11,22 @@ use Rattle.uac_device.proofs.device.Device.new.Goals as goal
 
 pub invariant_of-result : goal.invariant_of-result
 invariant_of-result c =
-    let resting = c.in_ok-wires.ensures.clocks in (
+    let resting = c.in_ok-rest.ensures.clocks in (
       record {
-        store = c.in_ok-store.ensures.of_function;
+        store = c.in_ok-rest.ensures.of_function;
         interfaces =
-            subst (AreSettingsOf c.args.function) (sym c.new-settings.ensures) (c.each_interface_starts_with_a_setting.ensures c.args.function);
-        wires = c.in_ok-wires.ensures.fitting;
+            subst (AreSettingsOf c.args.function) (sym c.new-2.ensures) (c.each_interface_starts_with_a_setting.ensures c.args.function);
+        wires = c.in_ok-rest.ensures.fitting;
         domains = ap (map (λ k. k.domain)) resting ∙ resting_domains c.args.function.domains;
         clocks = subst (λ (clocks : List DomainClock). All (λ k. IsDeviationInRange k.deviation) clocks) (sym resting) (resting_range c.args.function.domains);
         phases = subst (λ (clocks : List DomainClock). All (λ k. k.phase < 65536) clocks) (sym resting) (resting_phases c.args.function.domains);
-        ports = ap ports c.in_ok-wires.ensures.device_streams ∙ ports_idle c.args.function.entities c.args.function.streams;
+        ports = ap ports c.in_ok-rest.ensures.device_streams ∙ ports_idle c.args.function.entities c.args.function.streams;
       },
-      c.in_ok-graph.ensures,
-      c.in_ok-derived.ensures,
+      c.in_ok-rest.ensures.graph,
+      c.in_ok-rest.ensures.derived,
     )
 
 pub returns : goal.returns
 returns c =
-    fresh_stands c.args.function c.in_ok-store.store c.new-settings.result c.in_ok-wires.field-0.clocks.items c.in_ok-wires.field-0.wires c.in_ok-wires.field-0.device_streams c.in_ok-store.ensures.starts
-    c.new-settings.ensures c.in_ok-wires.ensures.clocks c.in_ok-wires.ensures.silent c.in_ok-wires.ensures.device_streams
+    fresh_stands c.args.function c.in_ok-rest.rest.store c.new-2.result c.in_ok-rest.rest.moving.clocks.items c.in_ok-rest.rest.moving.wires c.in_ok-rest.rest.moving.device_streams c.in_ok-rest.ensures.store
+    c.new-2.ensures c.in_ok-rest.ensures.clocks c.in_ok-rest.ensures.silent c.in_ok-rest.ensures.device_streams
