@@ -19,7 +19,7 @@ use Rattle.uac_streaming.specs.StreamingWorld.{StreamingWorld, all_reported, all
 use Rattle.uac_units.specs.Hearing.{at_most_u64}
 use Rattle.uac_running.specs.RunningWorld.{RunningWorld, streaming_of, with_streaming}
 use Rattle.uac_running.specs.Events.{all_domains, after_all_jacks, domain_microframe, domain_microframes, ends_and_reports, followed_by, microframe, number_said, of_streams, packets_and_ticks, tick, tick_times}
-use Rattle.uac_running.specs.RunningLines.{output_jacks, played_line, played_lines}
+use Rattle.uac_report.specs.ReportLines.{output_jacks, played_line, played_lines}
 
 -- it holds of every line that a microframe says but those of rings found empty or full, and of levels
 pub record IsQuiet (N : Said → Type 0) : Type 0 where

@@ -10,8 +10,8 @@ use Rattle.uac_running.specs.RunningWorld.{RunningWorld, with_detail, with_devia
 use Rattle.uac_running.specs.RunningNames.{are_frames, natural_of_int}
 use Rattle.uac_running.specs.Events.{microframes}
 use Rattle.uac_running.specs.RunningTransfers.{element_named, read_element, set_element, show_element, transfer, with_break}
-use Rattle.uac_bus.specs.declared.fault.BusFault.{BusFault}
-use Rattle.uac_bus.specs.BusWorld.{Step, BusWorld, describing, done, refused, running, silently, start, step, step_describing, step_running, step_telling, tone_of, unless}
+use Rattle.uac_fault.specs.declared.fault.BusFault.{BusFault}
+use Rattle.uac_rows.specs.BusWorld.{Step, BusWorld, describing, done, refused, running, silently, start, step, step_describing, step_running, step_telling, tone_of, unless}
 use Rattle.uac_bus.specs.After.{after, and_then, said_step}
 use Rattle.uac_believed.specs.Believed.{KnownValuesAreSo}
 use Rattle.uac_believed.proofs.BelievedWorldLemmas.{IsBelieved, IsGood, Keeps, begins_good, is_so}

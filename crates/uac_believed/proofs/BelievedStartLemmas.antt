@@ -22,7 +22,7 @@ use Rattle.uac_script.specs.Phrase.{Phrase, bytes_line}
 use Rattle.uac_units.specs.Hearing.{Reading}
 use Rattle.uac_running.specs.RunningWorld.{at_start}
 use Rattle.uac_device.specs.DeviceWorld.{fresh}
-use Rattle.uac_bus.specs.BusWorld.{step_describing}
+use Rattle.uac_rows.specs.BusWorld.{step_describing}
 use Rattle.uac_steady.proofs.ScriptsStartLemmas.{describing_is}
 use Rattle.uac_believed.proofs.BelievedWorldLemmas.{Begins, IsBegun, IsBelieved}
 

@@ -10,7 +10,7 @@ use Rattle.uac_mixer.specs.Agreement.{IsAgreed}
 use Rattle.uac_mixer.specs.ViewWorld.{IsViewOf, ViewWorld}
 use Rattle.uac_mixer.specs.declared.element.Element.{Element}
 use Rattle.uac_running.specs.RunningWorld.{RunningWorld}
-use Rattle.uac_bus.specs.BusWorld.{Step, BusWorld, describing, done, refused, running}
+use Rattle.uac_rows.specs.BusWorld.{Step, BusWorld, describing, done, refused, running}
 use Rattle.uac_believed.specs.Believed.{IsSoIn}
 
 -- a sound function, a value for each of its controls, and a view of it that knows these values alone

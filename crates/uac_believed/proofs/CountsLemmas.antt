@@ -34,10 +34,10 @@ use Rattle.uac_running.specs.declared.jacks.Jack.{Jack}
 use Rattle.uac_running.specs.RunningWorld.{RunningWorld, at_start, silent_jack, streaming_of, jack_with_tone, with_detail, with_deviation, with_samples_on, with_jack_tone, with_track}
 use Rattle.uac_running.specs.RunningNames.{are_frames, natural_of_int}
 use Rattle.uac_running.specs.Events.{microframes}
-use Rattle.uac_running.specs.RunningLines.{ticks_since}
+use Rattle.uac_report.specs.ReportLines.{ticks_since}
 use Rattle.uac_running.specs.RunningTransfers.{acts, element_named, holds_setting, read_element, set_element, show_element, transfer, after_transfer, with_break}
-use Rattle.uac_bus.specs.declared.fault.BusFault.{BusFault}
-use Rattle.uac_bus.specs.BusWorld.{Step, BusWorld, describing, done, refused, running, silently, start, step, step_describing, step_running, step_telling, tone_of, unless}
+use Rattle.uac_fault.specs.declared.fault.BusFault.{BusFault}
+use Rattle.uac_rows.specs.BusWorld.{Step, BusWorld, describing, done, refused, running, silently, start, step, step_describing, step_running, step_telling, tone_of, unless}
 use Rattle.uac_bus.specs.After.{after, and_then, said_step}
 use Rattle.uac_steady.proofs.ScriptsStartLemmas.{IsDescribed, describing_is, feeds_bytes}
 use Rattle.uac_steady.proofs.ScriptsEarlierLemmas.{on_element_is, unless_is}

@@ -5,7 +5,7 @@ use Rattle.std.proofs.lemmas.List.Elements.{All-weaker}
 use Rattle.uac_mixer.specs.declared.element.Element.{Element}
 use Rattle.uac_script.specs.Phrase.{Phrase}
 use Rattle.uac_script.specs.LineParsing.{answer}
-use Rattle.uac_bus.specs.BusWorld.{Step, BusWorld, done, refused, start}
+use Rattle.uac_rows.specs.BusWorld.{Step, BusWorld, done, refused, start}
 use Rattle.uac_bus.specs.After.{after, and_then, said_step}
 use Rattle.uac_believed.specs.Unknown.{IsLost, UnknownValuesAreLost, elements_in, if_done, last_or, reveals_in, knowledge_after}
 use Rattle.uac_believed.proofs.UnknownLemmas.{last_cons, values_are_known_as_told}

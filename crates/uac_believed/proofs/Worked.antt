@@ -8,7 +8,7 @@ use Rattle.uac_mixer.specs.declared.element.Element.{Element}
 use Rattle.uac_mixer.specs.declared.kinds.ElementKind.TheVariants as shown
 use Rattle.uac_script.specs.Phrase.{Phrase, break_line, control_line}
 use Rattle.uac_running.specs.RunningWorld.{RunningWorld, at_start}
-use Rattle.uac_bus.specs.BusWorld.{running}
+use Rattle.uac_rows.specs.BusWorld.{running, step}
 use Rattle.uac_entities.specs.EntityInterfaces.{entity_by_id}
 use Rattle.uac_store.specs.StoreControls.{channel_controls, controls_of, count_of, first_channels, has_on, initial_controls, start_of, takes, takes_on}
 use Rattle.uac_store.specs.Keyed.{value_of, with_value}
@@ -17,7 +17,6 @@ use Rattle.uac_request.specs.Requests.{unbroken_reply, breaks_q1, breaks_q2, bre
 use Rattle.uac_device.specs.DeviceWorld.{after_control, fresh}
 use Rattle.uac_mixer.specs.ViewTransfers.{is_for, value_after, view_after}
 use Rattle.uac_running.specs.RunningTransfers.{comes_back, transfer, after_transfer, with_break}
-use Rattle.uac_bus.specs.BusWorld.{step}
 use Rattle.uac_bus.specs.After.{after}
 use Rattle.uac_believed.specs.Unknown.{elements_in, reveals, knowledge_after}
 

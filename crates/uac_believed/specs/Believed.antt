@@ -3,7 +3,7 @@ use Rattle.std.specs.Prelude.{ℕ, List, map}
 use Rattle.uac_units.specs.Hearing.{Reading}
 use Rattle.uac_script.specs.LineParsing.{answer}
 use Rattle.uac_mixer.specs.Agreement.{IsAgreed}
-use Rattle.uac_bus.specs.BusWorld.{BusWorld, describing, running, start}
+use Rattle.uac_rows.specs.BusWorld.{BusWorld, describing, running, start}
 use Rattle.uac_bus.specs.After.{after}
 
 -- what the host knows of a control is the device's value: each element of its view has the value of the device's control, or none where

@@ -7,8 +7,8 @@ use Rattle.uac_lines.specs.ScriptLines.{most_of_input}
 use Rattle.uac_script.specs.LineParsing.{answer}
 use Rattle.uac_transcript.specs.declared.report.StreamCounts.{StreamCounts}
 use Rattle.uac_running.specs.RunningWorld.{RunningWorld}
-use Rattle.uac_running.specs.RunningLines.{ticks_since}
-use Rattle.uac_bus.specs.BusWorld.{BusWorld, describing, running, start}
+use Rattle.uac_report.specs.ReportLines.{ticks_since}
+use Rattle.uac_rows.specs.BusWorld.{BusWorld, describing, running, start}
 use Rattle.uac_bus.specs.After.{after}
 
 -- a count that is far from the greatest number of 64 bits

@@ -17,7 +17,7 @@ use Rattle.uac_script.specs.Phrase.{detail_line, report_line}
 use Rattle.uac_script.specs.LineParsing.{answer}
 use Rattle.uac_running.specs.RunningWorld.{RunningWorld}
 use Rattle.uac_running.specs.RunningTransfers.{comes_back, element_named}
-use Rattle.uac_bus.specs.BusWorld.{Step, BusWorld, describing, done, refused, running, start}
+use Rattle.uac_rows.specs.BusWorld.{Step, BusWorld, describing, done, refused, running, start}
 use Rattle.uac_bus.specs.After.{after, said_step}
 
 -- ---- the transfer that a line makes

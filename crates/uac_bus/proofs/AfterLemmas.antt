@@ -3,8 +3,8 @@ use Rattle.std.proofs.Common.{◌≡◌, ◌∙◌, sym, ap, refl, ℕ, ◌+◌,
 use Rattle.std.proofs.lemmas.List.{append-nil}
 use Rattle.uac_script.specs.Phrase.{Phrase}
 use Rattle.uac_transcript.specs.Transcript.{Said}
-use Rattle.uac_bus.specs.declared.fault.BusFault.{BusFault}
-use Rattle.uac_bus.specs.BusWorld.{BusWorld, Step, done, refused}
+use Rattle.uac_fault.specs.declared.fault.BusFault.{BusFault}
+use Rattle.uac_rows.specs.BusWorld.{BusWorld, Step, done, refused}
 use Rattle.uac_bus.specs.After.{After, after, and_then, one_done, said_step, step_added, no_line_done, with_one_more}
 
 -- a line of no others

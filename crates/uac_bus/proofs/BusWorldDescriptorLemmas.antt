@@ -24,12 +24,14 @@ use Rattle.uac_transcript.proofs.PrintingLemmas.{Appends-line, front_of_line}
 use Rattle.uac_running.specs.RunningKept.{RunningFields, RunningStandsBetween}
 use Rattle.uac_running.specs.RunningLines.{ready_line}
 use Rattle.uac_running.specs.RunningWorld.{at_start}
-use Rattle.uac_bus.specs.declared.fault.BusFault.{BusFault}
-use Rattle.uac_bus.specs.declared.fault.BusFault.TheVariants as faults
+use Rattle.uac_fault.specs.declared.fault.BusFault.{BusFault}
+use Rattle.uac_fault.specs.declared.fault.BusFault.TheVariants as faults
 use Rattle.uac_bus.specs.declared.bus.BusStage.TheVariants as stages
-use Rattle.uac_bus.specs.BusWorld.{BusWorld, Step, done, describing, running, if_no_fault, if_sound, silently, step_feed, step_go}
-use Rattle.uac_bus.specs.BusKept.{BusStageStands, Reaches, IsWriteCut, Prevents, Does, is_final}
-use Rattle.uac_bus.specs.BusRows.{BeginsRunning, bus_fault_of}
+use Rattle.uac_rows.specs.BusWorld.{BusWorld, Step, done, describing, running, if_no_fault, if_sound, silently, step_feed, step_go}
+use Rattle.uac_bus.specs.BusKept.{BusStageStands}
+use Rattle.uac_rows.specs.BusSteps.{Reaches, IsWriteCut, Prevents, Does, is_final}
+use Rattle.uac_bus.specs.Beginning.{BeginsRunning}
+use Rattle.uac_fault.specs.DescriptorFaults.{bus_fault_of}
 
 -- a fault of the descriptor is answered again from now on, and is no failed write
 pub told_finally : (fault : DescriptorFault) → is_final (bus_fault_of fault) ≡ true

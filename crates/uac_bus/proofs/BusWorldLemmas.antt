@@ -1,5 +1,5 @@
 -- Steps of the world, and what the bus answers them.
-use Rattle.std.proofs.Common.{◌≡◌, ℕ, Bool, true, false, List, ◌++◌, refl, ap, subst, ◌∙◌, ◌⊎◌, inl, inr, Option, None, Result, Ok, Err, IsErrAnd, sym}
+use Rattle.std.proofs.Common.{◌≡◌, ℕ, Bool, true, false, List, ◌++◌, refl, ap, subst, ◌∙◌, ◌⊎◌, inl, inr, Option, None, Result, Ok, Err}
 use Rattle.std.proofs.lemmas.Bool.{false≢true}
 use Rattle.std.specs.Prelude.{OnOk}
 use Rattle.std.proofs.KnownBytes.{Appends-nil}
@@ -10,31 +10,13 @@ use Rattle.uac_running.specs.RunningKept as play
 use Rattle.uac_running.specs.RunningKept.{RunningFields}
 use Rattle.uac_running.specs.RunningWorld.{RunningWorld}
 use Rattle.uac_bus.specs.declared.bus.BusStage.TheVariants as stages
-use Rattle.uac_pcm.specs.declared.tones.Tone.{Tone}
-use Rattle.uac_pcm.specs.declared.tones.Tone.TheVariants.{Silent, Ramp, Noise}
 use Rattle.uac_units.specs.Hearing.{Reading}
-use Rattle.uac_script.specs.Line.{phrase_tone_of}
 use Rattle.uac_script.specs.Lent.{lent_phrase}
 use Rattle.uac_script.specs.Phrase.{Phrase, nothing_line, bytes_line, go_line}
-use Rattle.uac_bus.specs.declared.fault.BusFault.{BusFault}
-use Rattle.uac_bus.specs.declared.fault.BusFault.TheVariants as faults
-use Rattle.uac_bus.specs.BusWorld.{BusWorld, describing, running, Step, done, refused, unless, breaks_rule, tone_of, step_feed, step_go, step, step_running}
-use Rattle.uac_bus.specs.BusKept.{BusFields, BusStands, BusStageStands, Reaches, IsWriteCut, Prevents, Does, Answers, is_append, may_want}
-
--- a tone is what its words spell
-pub tone_back : (tone : Tone) → tone_of (phrase_tone_of tone) ≡ tone
-tone_back Silent = refl
-tone_back (Ramp first rise) = refl
-tone_back (Noise seed) = refl
-
--- the rule holds, and the step is made; or it is broken
-pub unless_holds : (b : Bool) (rule : ℕ) (s : Step) → b ≡ true → unless b rule s ≡ s
-unless_holds true rule s e = refl
-unless_holds false rule s e = absurd (cc)
-
-pub unless_fails : (b : Bool) (rule : ℕ) (s : Step) → b ≡ false → unless b rule s ≡ breaks_rule rule
-unless_fails true rule s e = absurd (cc)
-unless_fails false rule s e = refl
+use Rattle.uac_fault.specs.declared.fault.BusFault.{BusFault}
+use Rattle.uac_rows.specs.BusWorld.{BusWorld, describing, running, Step, done, refused, breaks_rule, step_feed, step_go, step, step_running}
+use Rattle.uac_bus.specs.BusKept.{BusFields, BusStands, BusStageStands, Answers}
+use Rattle.uac_rows.specs.BusSteps.{Reaches, Prevents, Does, is_append, may_want}
 
 -- a step that was done leaves a bus that stands for the next world, where it keeps no fault
 pub answered : (s : Step) (memory : Bool) (bus : BusFields) (shown : List Reading) (written written' : Option (List ℕ)) (result : Result (Unit {0}) BusFault)
@@ -42,12 +24,6 @@ pub answered : (s : Step) (memory : Bool) (bus : BusFields) (shown : List Readin
 answered (done next text) memory bus shown written written' (Ok _) none does = (record { going = none; stage = does.0 }, does.1)
 answered (refused fault) memory bus shown written written' (Ok _) none does = absurd does
 answered s memory bus shown written written' (Err fault) none does = does
-
--- a write failed, and `?` handed that on
-pub cut_handed_on : (s : Step) (memory : Bool) (Holds : BusWorld → Type 0) (written written' : Option (List ℕ)) (result : Result (Unit {0}) BusFault)
-    → IsErrAnd result (λ fault. fault ≡ faults.WriteFault) → IsWriteCut s written written' → Does s memory Holds written written' result
-cut_handed_on s memory Holds written written' (Ok _) fails cut = absurd fails
-cut_handed_on s memory Holds written written' (Err fault) fails cut = subst (λ (f : BusFault). Prevents f memory s written written') (sym fails) cut
 
 -- two lines that say the same are answered the same
 pub answers_same : (p q : Phrase) (w : BusWorld) (bus : BusFields) (shown : List Reading) (written written' : Option (List ℕ)) (result : Result (Unit {0}) BusFault)

@@ -7,17 +7,19 @@ ghost use Rattle.uac_edges.specs.Faults.{Rose};
 ghost use Rattle.uac_script.specs.Line.{phrase_of, IsLineInRange};
 ghost use Rattle.uac_script.specs.Lent.{lent_phrase, IsLentInRange};
 ghost use Rattle.uac_script.specs.Phrase.{go_line};
-ghost use Rattle.uac_bus.specs.BusWorld.{BusWorld, start, step, finish_of};
-ghost use Rattle.uac_bus.specs.BusKept.{BusStands, BusStageStands, Does, Answers, may_want, is_final};
+ghost use Rattle.uac_rows.specs.BusWorld.{BusWorld, start, step, finish_of};
+ghost use Rattle.uac_bus.specs.BusKept.{BusStands, BusStageStands, Answers};
+ghost use Rattle.uac_rows.specs.BusSteps.{Does, may_want, is_final};
+ghost use Rattle.uac_rows.specs.Rows.{HasWriteCause, Leaves};
 
 use crate::describing::{begin, feed};
-use crate::fault::BusFault;
-use crate::rows::play;
 use std::alloc::Global;
 use std::marker::Model;
 use std::mem;
 use uac_edges::Sink;
+use uac_fault::BusFault;
 use uac_grammar::Reader;
+use uac_rows::play;
 use uac_running::Running;
 use uac_script::{LentLine, Line};
 use uac_units::{Meter, Meters, Rack, Unit};
@@ -208,9 +210,7 @@ fn go<K: Sink>(alloc: Global, stage: &mut BusStage, sink: &mut K) -> Result<(), 
         → Does (step go_line w) (may_want go_line w) (BusStageStands stage.new shown) (K.written sink.old) (K.written sink.new) result }
     ensures script { IfErr result (λ fault. is_final fault ≡ false → stage.new ≡ stage.old) }
     ensures unwritten { IfErr result (λ fault. fault ≢ BusFault.WriteFault → sink.new ≡ sink.old) }
-    ensures cause { IfErr result (λ fault. fault ≡ BusFault.WriteFault → Rose (K.faults sink.old) (K.faults sink.new)) }
-    ensures never_falls { K.faults sink.old ≤ K.faults sink.new }
-    ensures faultless { OnOk result (K.faults sink.new ≡ K.faults sink.old) }
+    ensures faults { HasWriteCause (K.faults sink.old) (K.faults sink.new) result }
 {
     match stage {
         BusStage::Describing(reader) => {
@@ -242,12 +242,8 @@ fn advance<K: Sink>(
         → Does (step (lent_phrase line.entry) w) (may_want (lent_phrase line.entry) w)
         (BusStageStands stage.new (readings (λ v x. (⟦<dyn Meter as Meter>⟧ v).reading_of x) meters.new)) (K.written sink.old)
         (K.written sink.new) result }
-    ensures script { IfErr result (λ fault. is_final fault ≡ false → stage.new ≡ stage.old) }
-    ensures unwritten { IfErr result (λ fault. fault ≢ BusFault.WriteFault → sink.new ≡ sink.old) }
-    ensures unheard { IfErr result (λ fault. fault ≢ BusFault.WriteFault → meters.new ≡ meters.old) }
-    ensures cause { IfErr result (λ fault. fault ≡ BusFault.WriteFault → Rose (K.faults sink.old) (K.faults sink.new)) }
-    ensures never_falls { K.faults sink.old ≤ K.faults sink.new }
-    ensures faultless { OnOk result (K.faults sink.new ≡ K.faults sink.old) }
+    ensures leaves { Leaves stage.old stage.new sink.old sink.new meters.old meters.new result }
+    ensures faults { HasWriteCause (K.faults sink.old) (K.faults sink.new) result }
 {
     match stage {
         BusStage::Describing(reader) => match line {

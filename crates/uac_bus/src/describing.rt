@@ -1,20 +1,22 @@
 // The lines of the descriptor.
-ghost use Rattle.std.specs.Prelude.{◌≡◌, ◌≢◌, ◌≤◌, ◌++◌, ℕ, List, Option, None, Ok, true, IfErr, OnOk, IfOk};
+ghost use Rattle.std.specs.Prelude.{◌≡◌, ◌≢◌, ◌++◌, ℕ, List, Option, None, Ok, true, IfErr, IfOk};
 ghost use Rattle.uac_configuration.specs.ConfigurationVerdict.{Describes};
 ghost use Rattle.uac_units.specs.Hearing.{Reading};
-ghost use Rattle.uac_edges.specs.Faults.{HasCause, Rose};
+ghost use Rattle.uac_edges.specs.Faults.{HasCause};
 ghost use Rattle.uac_edges.specs.Writing.{Writes};
 ghost use Rattle.uac_running.specs.RunningLines.{ready_line};
 ghost use Rattle.uac_transcript.specs.Transcript.{spelling_of};
-ghost use Rattle.uac_bus.specs.BusWorld.{step_feed, step_go};
-ghost use Rattle.uac_bus.specs.BusKept.{BusStageStands, Does, is_final};
-ghost use Rattle.uac_bus.specs.BusRows.{BeginsRunning};
+ghost use Rattle.uac_rows.specs.BusWorld.{step_feed, step_go};
+ghost use Rattle.uac_bus.specs.BusKept.{BusStageStands};
+ghost use Rattle.uac_rows.specs.BusSteps.{Does, is_final};
+ghost use Rattle.uac_bus.specs.Beginning.{BeginsRunning};
+ghost use Rattle.uac_rows.specs.Rows.{HasWriteCause};
 
 use crate::bus::BusStage;
-use crate::fault::BusFault;
 use std::alloc::Global;
 use uac_configuration::{SoundDescriptor, sound_descriptor};
 use uac_edges::Sink;
+use uac_fault::BusFault;
 use uac_grammar::Reader;
 use uac_running::Running;
 
@@ -41,9 +43,7 @@ pub(crate) fn begin<K: Sink>(
         → BeginsRunning (step_go reader.taken shown) shown (K.written sink.old) (K.written sink.new) result }
     ensures fault { IfErr result (λ fault. is_final fault ≡ true) }
     ensures unwritten { IfErr result (λ fault. fault ≢ BusFault.WriteFault → sink.new ≡ sink.old) }
-    ensures cause { IfErr result (λ fault. fault ≡ BusFault.WriteFault → Rose (K.faults sink.old) (K.faults sink.new)) }
-    ensures never_falls { K.faults sink.old ≤ K.faults sink.new }
-    ensures faultless { OnOk result (K.faults sink.new ≡ K.faults sink.old) }
+    ensures faults { HasWriteCause (K.faults sink.old) (K.faults sink.new) result }
 {
     match sound_descriptor(alloc, reader) {
         Ok(described) => start(alloc, described, sink),
@@ -61,9 +61,7 @@ fn start<K: Sink>(
         → (shown : List Reading) → BeginsRunning (step_go bytes shown) shown (K.written sink.old) (K.written sink.new) result }
     ensures fault { IfErr result (λ fault. is_final fault ≡ true) }
     ensures unwritten { IfErr result (λ fault. fault ≢ BusFault.WriteFault → sink.new ≡ sink.old) }
-    ensures cause { IfErr result (λ fault. fault ≡ BusFault.WriteFault → Rose (K.faults sink.old) (K.faults sink.new)) }
-    ensures never_falls { K.faults sink.old ≤ K.faults sink.new }
-    ensures faultless { OnOk result (K.faults sink.new ≡ K.faults sink.old) }
+    ensures faults { HasWriteCause (K.faults sink.old) (K.faults sink.new) result }
 {
     let running = Running::new(alloc, described.function, described.configuration)?;
     announce(running, sink)

@@ -1,7 +1,7 @@
 // A law of scripts, as the contract of a function that does nothing.
 ghost use Rattle.std.specs.Prelude.{◌≡◌, ℕ, List, [], ◌∷◌, ◌++◌, Result};
 ghost use Rattle.uac_script.specs.Phrase.{Phrase};
-ghost use Rattle.uac_bus.specs.BusWorld.{BusWorld};
+ghost use Rattle.uac_rows.specs.BusWorld.{BusWorld};
 ghost use Rattle.uac_bus.specs.After.{after, with_one_more};
 
 /// One more line after others is done in the world that they leave, and prints after them; after a refused line nothing is done.

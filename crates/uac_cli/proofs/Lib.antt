@@ -1,6 +1,1 @@
-pub mod ScriptRunLemmas
 pub mod ProgramLemmas
-pub mod CallLemmas
-pub mod CompletenessLemmas
-pub mod GeneratedCallLemmas
-pub mod CallHandingOnLemmas

@@ -10,8 +10,8 @@ use Rattle.uac_words.specs.Plain.{plainly}
 use Rattle.uac_describe.specs.declared.status.Status.{Status}
 use Rattle.uac_describe.specs.declared.status.Status.TheVariants as statuses
 use Rattle.uac_cli.specs.Boxes.{IsFreshCall, fresh_readings}
-use Rattle.uac_cli.specs.Call.{ask_to_read}
-use Rattle.uac_cli.specs.Completeness.{IsCompleteCall}
+use Rattle.uac_call.specs.Call.{ask_to_read}
+use Rattle.uac_call.specs.Completeness.{IsCompleteCall}
 use Rattle.uac_describe.specs.Outcome.{no_memory, outcome_of}
 use Rattle.uac_cli.specs.Program.{asked_by}
 use Rattle.uac_describe.specs.Closing.{Closes}

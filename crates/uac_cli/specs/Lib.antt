@@ -1,10 +1,4 @@
--- The program: what a call of it comes to.
--- What the program's theorem says: to be read and believed.
-pub mod Call
-pub mod Completeness
--- What the laws say besides.
-pub mod GeneratedCall
--- What the contracts below them cite: steps of the code, no part of what is promised.
+-- The program: what a call of it comes to with meters of its own, and the arguments of its process.
+-- What the contracts cite: steps of the code, no part of what is promised.
 pub mod Boxes
-pub mod Performing
 pub mod Program

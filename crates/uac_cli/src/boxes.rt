@@ -1,16 +1,11 @@
 // The boxes of the program: its units and its meters. They are made where the program is called.
-ghost use Rattle.std.specs.Prelude.{◌≡◌, ◌≢◌, true, map, string_bytes, IfOk, OnErr};
-ghost use Rattle.std.specs.Io.KnownBytes.{IsAtEnd};
-ghost use Rattle.uac_edges.specs.Faults.{Rose};
+ghost use Rattle.std.specs.Prelude.{◌≡◌, map, string_bytes, IfOk, OnErr};
 ghost use Rattle.uac_units.specs.Fitting.{IsFitted};
 ghost use Rattle.uac_words.specs.Plain.{plainly};
-ghost use Rattle.uac_cli.specs.Boxes.{IsFreshCall, fresh_readings};
-ghost use Rattle.uac_cli.specs.Call.{ask_to_read};
-ghost use Rattle.uac_cli.specs.Completeness.{IsCompleteCall};
-ghost use Rattle.uac_describe.specs.Closing.{IsFaultless};
+ghost use Rattle.uac_cli.specs.Boxes.{IsFreshRun};
 
-use crate::top::{Racks, uac_main};
 use std::alloc::{AllocError, Global};
+use uac_call::{Racks, uac_main};
 use uac_describe::Status;
 use uac_edges::{Sink, Source};
 use uac_units::{
@@ -25,28 +20,10 @@ pub fn run_in_boxes<S: Source, K: Sink>(
     source: &mut S,
     sink: &mut K,
 ) -> Result<Status, AllocError>
-    // Status and text follow from the words and the bytes that were taken, as with meters that have heard nothing.
-    ensures call { IfOk result (λ status. IsFreshCall (plainly (map (λ word. string_bytes word) words.now))
+    // What it comes to, with meters that have heard nothing.
+    ensures run { IfOk result (λ status. IsFreshRun (plainly (map (λ word. string_bytes word) words.now))
         (S.left source.old) (S.left source.new) (S.faults source.old) (S.faults source.new)
-        (K.written sink.old) (K.written sink.new) (K.faults sink.old) (K.faults sink.new) status) }
-
-    // Each fault of the outside has its cause in this call; and a call that tells of none met none.
-    ensures read_fault { IfOk result (λ status. status ≡ Status.ReadFault → Rose (S.faults source.old) (S.faults source.new)) }
-    ensures write_fault { IfOk result (λ status. status ≡ Status.WriteFault → Rose (K.faults sink.old) (K.faults sink.new)) }
-    ensures faultless { IfOk result (λ status. IsFaultless (S.faults source.old) (S.faults source.new)
-        (K.faults sink.old) (K.faults sink.new) status) }
-
-    // The whole input was read.
-    ensures ok { IfOk result (λ status. status ≡ Status.Ok → ask_to_read (plainly (map (λ word. string_bytes word) words.now)) ≡ true
-        → IsAtEnd (S.left source.new)) }
-
-    // Where no read and no write failed and there was memory, status and text are what the whole input comes to, to its end.
-    ensures complete { IfOk result (λ status. IsCompleteCall (plainly (map (λ word. string_bytes word) words.now)) fresh_readings
-        (S.left source.old) (S.faults source.old) (S.faults source.new)
-        (K.written sink.old) (K.written sink.new) (K.faults sink.old) (K.faults sink.new) status) }
-
-    // Where no failed write is told, all that was written was handed on.
-    ensures handed_on { IfOk result (λ status. status ≢ Status.WriteFault → K.waiting sink.new ≡ 0) }
+        (K.written sink.old) (K.written sink.new) (K.faults sink.old) (K.faults sink.new) (K.waiting sink.new) status) }
 
     // Where there is no memory for the boxes nothing is taken and nothing is written.
     ensures untaken { OnErr result (source.new ≡ source.old) }
@@ -79,19 +56,9 @@ fn run_with_racks<S: Source, K: Sink>(
 ) -> Result<Status, AllocError>
     requires plain { IsFitted (λ v x. (⟦<dyn Unit as Unit>⟧ v).kind_of x) racks.now.plain }
     requires lanes { IsFitted (λ v x. (⟦<dyn Unit as Unit>⟧ v).kind_of x) racks.now.lanes }
-    ensures call { IfOk result (λ status. IsFreshCall (plainly (map (λ word. string_bytes word) words.now))
+    ensures run { IfOk result (λ status. IsFreshRun (plainly (map (λ word. string_bytes word) words.now))
         (S.left source.old) (S.left source.new) (S.faults source.old) (S.faults source.new)
-        (K.written sink.old) (K.written sink.new) (K.faults sink.old) (K.faults sink.new) status) }
-    ensures read_fault { IfOk result (λ status. status ≡ Status.ReadFault → Rose (S.faults source.old) (S.faults source.new)) }
-    ensures write_fault { IfOk result (λ status. status ≡ Status.WriteFault → Rose (K.faults sink.old) (K.faults sink.new)) }
-    ensures faultless { IfOk result (λ status. IsFaultless (S.faults source.old) (S.faults source.new)
-        (K.faults sink.old) (K.faults sink.new) status) }
-    ensures ok { IfOk result (λ status. status ≡ Status.Ok → ask_to_read (plainly (map (λ word. string_bytes word) words.now)) ≡ true
-        → IsAtEnd (S.left source.new)) }
-    ensures complete { IfOk result (λ status. IsCompleteCall (plainly (map (λ word. string_bytes word) words.now)) fresh_readings
-        (S.left source.old) (S.faults source.old) (S.faults source.new)
-        (K.written sink.old) (K.written sink.new) (K.faults sink.old) (K.faults sink.new) status) }
-    ensures handed_on { IfOk result (λ status. status ≢ Status.WriteFault → K.waiting sink.new ≡ 0) }
+        (K.written sink.old) (K.written sink.new) (K.faults sink.old) (K.faults sink.new) (K.waiting sink.new) status) }
     ensures untaken { OnErr result (source.new ≡ source.old) }
     ensures unwritten { OnErr result (sink.new ≡ sink.old) }
 {

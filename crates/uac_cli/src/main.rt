@@ -6,19 +6,15 @@
 mod arguments;
 /// The boxes of the program: its units and its meters.
 mod boxes;
-/// The laws of scripts and of generated ones.
-pub mod laws;
 /// The program from its arguments to its status.
 mod program;
 #[cfg(test)]
 mod tests;
-/// The top call.
-mod top;
 
 pub use program::run_program;
 use std::env;
 use std::process::ExitCode;
-pub use top::{Racks, uac_main};
+pub use uac_call::{Racks, uac_main};
 pub use uac_describe::{Status, exit_code};
 use uac_edges::{Gathering, StdSink, StdSource};
 

@@ -3,8 +3,8 @@ ghost use Rattle.std.specs.Prelude.{◌≡◌, ◌≢◌, true};
 ghost use Rattle.std.specs.Io.KnownBytes.{IsAtEnd};
 ghost use Rattle.uac_edges.specs.Faults.{Rose};
 ghost use Rattle.uac_cli.specs.Boxes.{IsFreshCall, fresh_readings};
-ghost use Rattle.uac_cli.specs.Call.{ask_to_read};
-ghost use Rattle.uac_cli.specs.Completeness.{IsCompleteCall};
+ghost use Rattle.uac_call.specs.Call.{ask_to_read};
+ghost use Rattle.uac_call.specs.Completeness.{IsCompleteCall};
 ghost use Rattle.uac_describe.specs.Closing.{IsFaultless};
 ghost use Rattle.uac_cli.specs.Program.{asked_by};
 

@@ -3,7 +3,7 @@ use Rattle.std.proofs.Common.{◌≡◌, ◌∙◌, sym, refl, ap, subst, ℕ, L
 use Rattle.uac_script.specs.Phrase.{Phrase}
 use Rattle.uac_script.specs.LineParsing.{answer}
 use Rattle.uac_transcript.specs.Transcript.{Said}
-use Rattle.uac_bus.specs.BusWorld.{Step, BusWorld, done, refused, step}
+use Rattle.uac_rows.specs.BusWorld.{Step, BusWorld, done, refused, step}
 use Rattle.uac_bus.specs.After.{After, after, and_then, said_step}
 
 -- none of these lines is refused in a world, and this holds after them

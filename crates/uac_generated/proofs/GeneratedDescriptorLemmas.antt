@@ -23,7 +23,7 @@ use Rattle.uac_script.specs.Phrase.{bytes_line, go_line}
 use Rattle.uac_running.specs.RunningWorld.{at_start}
 use Rattle.uac_running.specs.RunningLines.{ready_line}
 use Rattle.uac_configuration.specs.Description.{blocks_from, blocks_of, function_of}
-use Rattle.uac_bus.specs.BusWorld.{Step, BusWorld, describing, done, step_feed, step_go, if_no_fault, if_sound, running, silently, step}
+use Rattle.uac_rows.specs.BusWorld.{Step, BusWorld, describing, done, step_feed, step_go, if_no_fault, if_sound, running, silently, step}
 use Rattle.uac_gen.specs.GeneratedDescriptor.{descriptor_of}
 use Rattle.uac_gen.specs.Generator.{feed_count, feed_line}
 use Rattle.uac_generated.proofs.GrammarLemmas.{none_faulty}

@@ -16,8 +16,8 @@ use Rattle.uac_running.specs.RunningNames.{has_domain, has_out, names_stream}
 use Rattle.uac_running.specs.Events.{microframes}
 use Rattle.uac_running.specs.RunningLines.{ready_line, report_lines}
 use Rattle.uac_running.specs.RunningTransfers.{transfer, after_transfer}
-use Rattle.uac_bus.specs.BusWorld.{BusWorld, describing, done, finish_of, running, silently, start, step, step_telling}
-use Rattle.uac_bus.proofs.BusWorldLemmas.{unless_holds}
+use Rattle.uac_rows.specs.BusWorld.{BusWorld, describing, done, finish_of, running, silently, start, step, step_telling}
+use Rattle.uac_rows.proofs.BusStepsLemmas.{unless_holds}
 use Rattle.uac_steady.specs.Scripts.{after_texts, is_steady_in}
 use Rattle.uac_gen.specs.GeneratedDescriptor.{descriptor_of}
 use Rattle.uac_gen.specs.Generator.{lines_after_descriptor, deviation_line, draw, feed_lines, generated_lines, group_lines, groups, next_x, rate_line, rest_line, run_line, setting_script_line, tone_line, unpacked_lines, unreported_lines}

@@ -5,7 +5,7 @@ use Rattle.uac_units.specs.Hearing.{Reading}
 use Rattle.uac_gen.specs.Generator.{generated_lines}
 use Rattle.uac_gen.specs.GeneratedScript.{script_of}
 use Rattle.uac_lines.specs.ScriptLines.{most_of_input, most_of_line}
-use Rattle.uac_bus.specs.BusWorld.{finish_of}
+use Rattle.uac_rows.specs.BusWorld.{finish_of}
 use Rattle.uac_bus.specs.After.{After}
 use Rattle.uac_steady.specs.Scripts.{after_texts, is_steady_in}
 

@@ -14,8 +14,8 @@ use Rattle.uac_running.specs.RunningWorld.{RunningWorld, with_detail, with_devia
 use Rattle.uac_running.specs.RunningNames.{natural_of_int}
 use Rattle.uac_running.specs.RunningLines.{report_lines}
 use Rattle.uac_running.specs.RunningTransfers.{element_named, read_element, set_element, show_element, transfer, after_transfer, with_break}
-use Rattle.uac_bus.specs.declared.fault.BusFault.{BusFault}
-use Rattle.uac_bus.specs.BusWorld.{Step, BusWorld, done, refused, running, step_running, step_telling, tone_of}
+use Rattle.uac_fault.specs.declared.fault.BusFault.{BusFault}
+use Rattle.uac_rows.specs.BusWorld.{Step, BusWorld, done, refused, running, step_running, step_telling, tone_of}
 use Rattle.uac_bands.proofs.BeginningsLemmas.{calls_keep_bands}
 use Rattle.uac_bands.proofs.BandRunEarlierLemmas.{calls_look_back}
 use Rattle.uac_bands.proofs.BandTransfersBandLemmas.{transfers_keep_bands}

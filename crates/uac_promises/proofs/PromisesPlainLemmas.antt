@@ -9,8 +9,9 @@ use Rattle.uac_transcript.specs.Transcript.{Said, says_level, says_meter, says_o
 use Rattle.uac_transcript.specs.declared.report.StreamCounts.{StreamCounts}
 use Rattle.uac_running.specs.RunningWorld.{RunningWorld}
 use Rattle.uac_running.specs.RunningWorld as world
-use Rattle.uac_running.specs.RunningLines.{domain_line, report_lines, says_stream, stream_line}
-use Rattle.uac_bus.specs.BusWorld.{BusWorld, describing, running}
+use Rattle.uac_running.specs.RunningLines.{report_lines}
+use Rattle.uac_report.specs.ReportLines.{domain_line, says_stream, stream_line}
+use Rattle.uac_rows.specs.BusWorld.{BusWorld, describing, running}
 use Rattle.uac_homing.specs.Past.{Pasts}
 use Rattle.uac_promises.specs.Watches.{watch_in}
 use Rattle.uac_promises.specs.Promises.{IsCloseIn, IsKeptPromise}

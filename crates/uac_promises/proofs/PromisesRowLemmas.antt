@@ -9,7 +9,7 @@ use Rattle.uac_script.specs.Line.{Says}
 use Rattle.uac_script.specs.LineParsing.{answer}
 use Rattle.uac_script.proofs.LineParsingLemmas.{says_only}
 use Rattle.uac_transcript.specs.Transcript.{Said}
-use Rattle.uac_bus.specs.BusWorld.{Step, BusWorld, describing, done, refused, running, start, step}
+use Rattle.uac_rows.specs.BusWorld.{Step, BusWorld, describing, done, refused, running, start, step}
 use Rattle.uac_bus.specs.After.{After, after, and_then, said_step, with_one_more}
 use Rattle.uac_bus.proofs.AfterLemmas.{after_one_more}
 use Rattle.uac_bands.specs.BandRun.{IsNearLevel, IsNoUnder}

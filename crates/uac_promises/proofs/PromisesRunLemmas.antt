@@ -8,7 +8,7 @@ use Rattle.uac_rate.specs.Steadiness.{is_steady}
 use Rattle.uac_script.specs.Phrase.{PhraseMark}
 use Rattle.uac_running.specs.RunningWorld.{RunningWorld}
 use Rattle.uac_running.specs.Events.{microframe, microframes}
-use Rattle.uac_bus.specs.BusWorld.{BusWorld, describing, running}
+use Rattle.uac_rows.specs.BusWorld.{BusWorld, describing, running}
 use Rattle.uac_bands.specs.BandRun.{RunInBand}
 use Rattle.uac_bands.specs.BandTransfers.{IsSoundRun}
 use Rattle.uac_bands.proofs.BandRunLevelLemmas.{tell_near}

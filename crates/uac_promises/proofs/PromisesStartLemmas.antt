@@ -6,7 +6,7 @@ use Rattle.uac_script.specs.Phrase.{Phrase, bytes_line}
 use Rattle.uac_units.specs.Hearing.{Reading}
 use Rattle.uac_running.specs.RunningWorld.{at_start}
 use Rattle.uac_running.specs.RunningLines.{ready_line}
-use Rattle.uac_bus.specs.BusWorld.{BusWorld, describing, running, step_describing}
+use Rattle.uac_rows.specs.BusWorld.{BusWorld, describing, running, step_describing}
 use Rattle.uac_bands.proofs.BeginningsLemmas.{runs_start_in_band}
 use Rattle.uac_bands.proofs.BandTransfersStartLemmas.{runs_start_sound}
 use Rattle.uac_homing.specs.Past.{Pasts}

@@ -7,7 +7,7 @@ use Rattle.uac_transcript.specs.Transcript.{Said}
 use Rattle.uac_running.specs.RunningWorld.{RunningWorld}
 use Rattle.uac_running.specs.RunningNames.{natural_of_int}
 use Rattle.uac_running.specs.Events.{microframe, microframes}
-use Rattle.uac_bus.specs.BusWorld.{Step, BusWorld, describing, done, refused, running, step, step_describing, step_running}
+use Rattle.uac_rows.specs.BusWorld.{Step, BusWorld, describing, done, refused, running, step, step_describing, step_running}
 use Rattle.uac_bus.specs.After.{after, and_then}
 use Rattle.uac_homing.specs.Past.{Pasts, pasts_after}
 use Rattle.uac_steady.proofs.ScriptsEarlierLemmas.{gone_on, unless_is}

@@ -5,7 +5,7 @@ use Rattle.uac_units.specs.Hearing.{Reading}
 use Rattle.uac_script.specs.Line.{Says}
 use Rattle.uac_script.specs.Phrase.{Phrase}
 use Rattle.uac_transcript.specs.Transcript.{Said}
-use Rattle.uac_bus.specs.BusWorld.{BusWorld, describing, done, running, start}
+use Rattle.uac_rows.specs.BusWorld.{BusWorld, describing, done, running, start}
 use Rattle.uac_bus.specs.After.{after, said_step}
 use Rattle.uac_bands.specs.BandRun.{IsNearLevel, IsNoUnder}
 use Rattle.uac_overflow.specs.Recording.{AreRecorded, IsNoOver}

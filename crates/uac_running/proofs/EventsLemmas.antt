@@ -20,15 +20,16 @@ use Rattle.uac_streaming.specs.Telling.{Telling, telling_after, without_event}
 use Rattle.uac_host.specs.HostWorld.{HostWorld}
 use Rattle.uac_streaming.specs.StreamingKept.{StreamingFields}
 use Rattle.uac_streaming.specs.StreamingWorld.{StreamingWorld, found_counts, found_lines, met_in, numbers, numbers_in, numbers_out}
-use Rattle.uac_running.specs.declared.counts.TickCount.{TickCount}
+use Rattle.uac_report.specs.declared.counts.TickCount.{TickCount}
 use Rattle.uac_running.specs.declared.jacks.Jack.{Jack}
 use Rattle.uac_topology.specs.Function.{FunctionFields}
 use Rattle.uac_mixer.specs.ViewWorld.{IsViewOf, ViewWorld}
 use Rattle.uac_running.specs.RunningWorld.{RunningWorld, streaming_of, jack_with_tone, with_detail, with_deviation, with_streaming, with_jack_tone}
-use Rattle.uac_running.specs.RunningLines.{played_lines}
+use Rattle.uac_report.specs.ReportLines.{played_lines}
 use Rattle.uac_running.specs.Events.{after_all_jacks, domain_microframe, domain_microframes, ends_and_reports, followed_by, after_jacks, jacks_after_frame, microframe, microframes, next_frame, number_said, of_streams, packets_and_ticks, tick, tick_times}
 use Rattle.uac_running.specs.RunningTransfers.{break_at, with_break}
-use Rattle.uac_running.specs.RunningKept.{RunningFields, RunningStands, RunningStandsBetween, RunningTells, RunningTellsBetween, tick_count_of, more_counted}
+use Rattle.uac_running.specs.RunningKept.{RunningFields, RunningStands, RunningStandsBetween, RunningTells, RunningTellsBetween}
+use Rattle.uac_report.specs.TickCounts.{tick_count_of, more_counted}
 use Rattle.uac_running.specs.Silence.{AreAtRest}
 use Rattle.uac_running.proofs.RunningKeptLemmas.{clocks_of, tick_count_of-off, tick_count_of-stepped}
 use Rattle.uac_running.proofs.TellingLemmas.{at_ok, front_then, ok_then, tells_following, tells_then}

@@ -13,5 +13,4 @@ pub mod RunningTransfersLemmas
 pub mod RunningTransfersLineLemmas
 pub mod ViewLinksLemmas
 pub mod RunningLinesReportLemmas
-pub mod RunningLinesLemmas
 pub mod Worked

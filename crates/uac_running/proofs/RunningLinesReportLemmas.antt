@@ -8,7 +8,8 @@ use Rattle.uac_transcript.specs.Transcript.{Said, says_meter, says_passed, says_
 use Rattle.uac_transcript.specs.Printing.{Prints, text_of}
 use Rattle.uac_transcript.proofs.PrintingLemmas.{Prints-after, front_of_more}
 use Rattle.uac_running.specs.RunningWorld.{RunningWorld, is_steady}
-use Rattle.uac_running.specs.RunningLines.{domain_line, report_lines, stream_line}
+use Rattle.uac_running.specs.RunningLines.{report_lines}
+use Rattle.uac_report.specs.ReportLines.{domain_line, stream_line}
 use Rattle.uac_running.specs.RunningKept.{RunningFields, RunningStands}
 
 -- the first two lines

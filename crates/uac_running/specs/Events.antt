@@ -12,7 +12,7 @@ use Rattle.uac_streaming.specs.Telling.{Telling, telling_after, without_event}
 use Rattle.uac_streaming.specs.StreamingWorld.{StreamingWorld, all_reported, all_settled, found_counts, found_lines, in_packets}
 use Rattle.uac_streaming.specs.StreamingWorld.{out_packets}
 use Rattle.uac_running.specs.RunningWorld.{RunningWorld, streaming_of, with_streaming}
-use Rattle.uac_running.specs.RunningLines.{played_lines}
+use Rattle.uac_report.specs.ReportLines.{played_lines}
 
 -- the frame that a jack's tone gives next
 unfoldable pub next_frame : Jack → List ℤ

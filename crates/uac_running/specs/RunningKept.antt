@@ -1,13 +1,13 @@
 -- What is kept of a running device, and for which worlds it stands.
-use Rattle.std.specs.Prelude.{◌≡◌, ℕ, ◌≤◌, ◌+◌, ◌==◌, nat_eq, true, if◌then◌else◌, List, map, Option, Result, OnOk}
+use Rattle.std.specs.Prelude.{◌≡◌, ℕ, ◌≤◌, nat_eq, true, List, map, Option, Result, OnOk}
 use Rattle.std.specs.List.{All, IsDistinct}
-use Rattle.uac_units.specs.Hearing.{Reading, at_most_u64}
+use Rattle.uac_units.specs.Hearing.{Reading}
 use Rattle.uac_device.specs.DeviceKept as device
-use Rattle.uac_device.specs.DeviceWorld.{Domain, is_input_jack}
+use Rattle.uac_device.specs.DeviceWorld.{is_input_jack}
 use Rattle.uac_graph.specs.Meaning.{entity}
 use Rattle.uac_transcript.specs.Printing.{Prints}
 use Rattle.uac_running.specs.declared.jacks.Jack.{Jack}
-use Rattle.uac_running.specs.declared.counts.TickCount.{TickCount}
+use Rattle.uac_report.specs.declared.counts.TickCount.{TickCount}
 use Rattle.uac_streaming.specs.StreamingKept as streaming
 use Rattle.uac_streaming.specs.StreamingKept.{StreamingFields}
 use Rattle.uac_streaming.specs.Room.{HaveRoom}
@@ -15,7 +15,7 @@ use Rattle.uac_mixer.specs.ViewWorld.{ViewWorld}
 use Rattle.uac_mixer.specs.declared.link.When.{When}
 use Rattle.uac_running.specs.RunningWorld.{RunningWorld, streaming_of}
 use Rattle.uac_streaming.specs.Telling.{Telling}
-use Rattle.uac_running.specs.RunningLines.{ticks_since}
+use Rattle.uac_report.specs.TickCounts.{tick_count_of}
 use Rattle.uac_configuration.specs.Configuration.{configuration_of}
 
 -- what a running device is seen as: of a domain's steps it keeps how many ticks they are
@@ -30,17 +30,6 @@ pub record RunningFields : Type 0 where
   pub time : ℕ
   pub detail : ℕ
   pub renders : ℕ
-
-abbrev pub tick_count_of : Domain → TickCount
-tick_count_of d = record { domain = d.id; ticks = ticks_since d }
-
--- a domain that hasn't ticked
-abbrev pub none_counted : ℕ → TickCount
-none_counted domain = record { domain = domain; ticks = 0 }
-
--- a domain's ticks, and so many more where it is the one with this clock
-abbrev pub more_counted : ℕ → ℕ → TickCount → TickCount
-more_counted domain ticks c = if c.domain == domain then record c { ticks = at_most_u64 (c.ticks + ticks) } else c
 
 -- a running device stands for this world, with meters that show these readings
 pub record RunningStands (running : RunningFields) (shown : List Reading) (r : RunningWorld) : Type 0 where

@@ -11,7 +11,7 @@ ghost use Rattle.uac_device.specs.Stillness.{IsStill};
 ghost use Rattle.uac_transcript.specs.Printing.{Prints};
 ghost use Rattle.uac_streaming.specs.StreamingWorld.{all_reported, all_settled, found_lines, in_packets, out_packets};
 ghost use Rattle.uac_running.specs.RunningWorld.{RunningWorld};
-ghost use Rattle.uac_running.specs.RunningLines.{played_lines};
+ghost use Rattle.uac_report.specs.ReportLines.{played_lines};
 ghost use Rattle.uac_running.specs.Events.{after_all_jacks, domain_microframe, domain_microframes, ends_and_reports, microframe};
 ghost use Rattle.uac_running.specs.Events.{microframes};
 ghost use Rattle.uac_running.specs.Events.{number_said, of_streams, packets_and_ticks, tick, tick_times};
@@ -19,13 +19,12 @@ ghost use Rattle.uac_running.specs.RunningKept.{RunningStands, RunningStandsBetw
 ghost use Rattle.uac_running.specs.Silence.{AreAtRest, packets};
 ghost use Rattle.uac_running.specs.Silence as silence;
 
-use crate::counts::count_ticks;
 use crate::jacks::{next_frames, one_sounds};
-use crate::printing::write_jacks;
 use crate::running::Running;
 use uac_device::Ticked;
 use uac_edges::{Failed, Sink};
 use uac_graph::laws::fresh_steps_have_room;
+use uac_report::{count_ticks, write_jacks};
 use uac_script::Mark;
 use uac_streaming::write_found;
 use uac_topology::laws::{functions_are_sound, interfaces_are_numbered};

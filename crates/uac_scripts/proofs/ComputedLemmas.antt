@@ -8,7 +8,7 @@ use Rattle.uac_script.specs.Phrase.{Phrase}
 use Rattle.uac_script.specs.LineParsing.{answer}
 use Rattle.uac_script.proofs.LineParsingLemmas.{answer_says, says_only}
 use Rattle.uac_script.proofs.SayingLemmas.{each_says_once}
-use Rattle.uac_bus.specs.BusWorld.{BusWorld, start}
+use Rattle.uac_rows.specs.BusWorld.{BusWorld, start}
 use Rattle.uac_bus.specs.After.{said_step}
 use Rattle.uac_describe.specs.Outcome.{End, at_end, read_failed, stopped}
 use Rattle.uac_scripts.specs.ScriptTranscript.{Ending, IsTranscript, Sayings, after_step, ending_at, rest_by, head_by, lines_by, transcript_by}

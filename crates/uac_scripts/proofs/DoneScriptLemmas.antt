@@ -7,8 +7,8 @@ use Rattle.uac_lines.specs.ScriptLines.{Head, line, long, past, unended, head_of
 use Rattle.uac_script.specs.LineParsing.{answer}
 use Rattle.uac_lines.proofs.ScriptLinesLemmas.{head_unended-all}
 use Rattle.uac_transcript.specs.Transcript.{Said}
-use Rattle.uac_bus.specs.declared.fault.BusFault.TheVariants as faults
-use Rattle.uac_bus.specs.BusWorld.{BusWorld, Step, describing, done, refused, running, start}
+use Rattle.uac_fault.specs.declared.fault.BusFault.TheVariants as faults
+use Rattle.uac_rows.specs.BusWorld.{BusWorld, Step, describing, done, refused, running, start}
 use Rattle.uac_bus.specs.After.{After, after, and_then, said_step}
 use Rattle.uac_promises.proofs.PromisesLemmas.{all_scripts_keep_promises}
 use Rattle.uac_describe.specs.Outcome.{End, Printed, at_end, no_memory, read_failed, stopped}

@@ -9,11 +9,12 @@ use Rattle.uac_units.specs.Hearing.{Reading}
 use Rattle.uac_script.specs.declared.lent.LentLine.{LentLine}
 use Rattle.uac_script.specs.Lent.{lent_phrase, lent_phrase_result}
 use Rattle.uac_transcript.specs.Printing.{text_of}
-use Rattle.uac_bus.specs.declared.fault.BusFault.{BusFault}
-use Rattle.uac_bus.specs.declared.fault.BusFault.TheVariants as faults
-use Rattle.uac_bus.specs.BusWorld.{BusWorld, Step, done, refused, step}
+use Rattle.uac_fault.specs.declared.fault.BusFault.{BusFault}
+use Rattle.uac_fault.specs.declared.fault.BusFault.TheVariants as faults
+use Rattle.uac_rows.specs.BusWorld.{BusWorld, Step, done, refused, step}
 use Rattle.uac_bus.specs.After.{said_step}
-use Rattle.uac_bus.specs.BusKept.{Answers, BusFields, BusStands, may_want}
+use Rattle.uac_bus.specs.BusKept.{Answers, BusFields, BusStands}
+use Rattle.uac_rows.specs.BusSteps.{may_want}
 use Rattle.uac_scripts.specs.LineOutcomes.{DoesScriptLine, Leaves}
 use Rattle.uac_scripts.specs.Script.{wants}
 

@@ -5,7 +5,7 @@ use Rattle.uac_units.specs.Hearing.{Reading}
 use Rattle.uac_lines.specs.Words.{is_idle}
 use Rattle.uac_script.specs.Phrase.{Phrase, nothing_line}
 use Rattle.uac_script.specs.LineParsing.{answer}
-use Rattle.uac_bus.specs.BusWorld.{BusWorld, describing, running, step}
+use Rattle.uac_rows.specs.BusWorld.{BusWorld, describing, running, step}
 use Rattle.uac_bus.specs.After.{said_step}
 use Rattle.uac_bus.specs.BusKept.{BusFields, BusStands}
 use Rattle.uac_scripts.specs.LineOutcomes.{DoesScriptLine}

@@ -17,15 +17,16 @@ use Rattle.uac_script.proofs.LineParsingLemmas.{answer_says}
 use Rattle.uac_lines.proofs.ScriptLinesLemmas.{head_line-more}
 use Rattle.uac_edges.proofs.WritingLemmas.{Appends-none}
 use Rattle.uac_transcript.proofs.PrintingLemmas.{Appends-lines, front_after, front_of_more}
-use Rattle.uac_bus.specs.declared.fault.BusFault.{BusFault}
-use Rattle.uac_bus.specs.declared.fault.BusFault.TheVariants as faults
-use Rattle.uac_bus.specs.BusWorld.{BusWorld, describing, running, Step, done, refused, start, finish_of, meters_in}
+use Rattle.uac_fault.specs.declared.fault.BusFault.{BusFault}
+use Rattle.uac_fault.specs.declared.fault.BusFault.TheVariants as faults
+use Rattle.uac_rows.specs.BusWorld.{BusWorld, describing, running, Step, done, refused, start, finish_of, meters_in}
 use Rattle.uac_bus.specs.After.{after, said_step}
 use Rattle.uac_transcript.specs.Transcript.{Said, spelling_of}
 use Rattle.uac_transcript.specs.Printing.{text_of}
 use Rattle.uac_bus.specs.declared.bus.BusStage.{BusStage}
 use Rattle.uac_bus.specs.declared.bus.BusStage.TheVariants as stages
-use Rattle.uac_bus.specs.BusKept.{BusFields, BusStands, BusStageStands, Reaches, IsWriteCut, Prevents}
+use Rattle.uac_bus.specs.BusKept.{BusFields, BusStands, BusStageStands}
+use Rattle.uac_rows.specs.BusSteps.{Reaches, IsWriteCut, Prevents}
 use Rattle.uac_scripts.specs.declared.jobs.SourceJob.TheVariants.{Run}
 use Rattle.uac_describe.specs.declared.status.Status.{Status}
 use Rattle.uac_describe.specs.declared.status.Status.TheVariants as statuses

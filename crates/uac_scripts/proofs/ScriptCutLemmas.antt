@@ -12,8 +12,8 @@ use Rattle.uac_script.specs.Phrase.{Phrase}
 use Rattle.uac_script.specs.LineParsing.{answer}
 use Rattle.uac_lines.proofs.ScriptLinesLemmas.{Cases, is_long, is_line, is_past, is_unended, cases_of, line_end_in}
 use Rattle.uac_transcript.specs.Transcript.{Said}
-use Rattle.uac_bus.specs.declared.fault.BusFault.{BusFault}
-use Rattle.uac_bus.specs.BusWorld.{BusWorld, Step, done, start}
+use Rattle.uac_fault.specs.declared.fault.BusFault.{BusFault}
+use Rattle.uac_rows.specs.BusWorld.{BusWorld, Step, done, start}
 use Rattle.uac_bus.specs.After.{After, after, if_refused, said_step, step_added, with_one_more}
 use Rattle.uac_bus.proofs.AfterLemmas.{after_one_more}
 use Rattle.uac_edges.specs.TextLines.{with_newlines}

@@ -13,8 +13,8 @@ use Rattle.uac_script.specs.Phrase.{Phrase}
 use Rattle.uac_script.specs.LineParsing.{answer}
 use Rattle.uac_lines.proofs.ScriptLinesLemmas.{head_line, line_end_in}
 use Rattle.uac_script.proofs.SayingLemmas.{each_says_once}
-use Rattle.uac_bus.specs.declared.fault.BusFault.{BusFault}
-use Rattle.uac_bus.specs.BusWorld.{BusWorld, Step, done, refused, start}
+use Rattle.uac_fault.specs.declared.fault.BusFault.{BusFault}
+use Rattle.uac_rows.specs.BusWorld.{BusWorld, Step, done, refused, start}
 use Rattle.uac_bus.specs.After.{After, after, and_then, said_step}
 use Rattle.uac_describe.specs.Outcome.{End}
 use Rattle.uac_edges.specs.TextLines.{with_newlines}

@@ -5,7 +5,7 @@ use Rattle.uac_lines.specs.ScriptLines.{Head, line, long, past, unended, head_of
 use Rattle.uac_lines.specs.Looking.{line_end}
 use Rattle.uac_script.specs.LineParsing.{answer}
 use Rattle.uac_lines.proofs.ScriptLinesLemmas.{Cases, is_long, is_line, is_past, is_unended, cases_of, line_end_within}
-use Rattle.uac_bus.specs.BusWorld.{BusWorld, Step, done, refused}
+use Rattle.uac_rows.specs.BusWorld.{BusWorld, Step, done, refused}
 use Rattle.uac_describe.specs.Outcome.{End, at_end, read_failed, read_fault, stopped}
 use Rattle.uac_transcript.specs.Transcript.{Said}
 use Rattle.uac_bus.specs.After.{said_step}

@@ -6,7 +6,7 @@ use Rattle.uac_lines.specs.ScriptLines.{Head, line, long, past, unended, head_of
 use Rattle.uac_script.specs.LineParsing.{answer}
 use Rattle.uac_lines.proofs.ScriptLinesLemmas.{head_line-more, head_long-more, head_past-more}
 use Rattle.uac_transcript.specs.Transcript.{Said}
-use Rattle.uac_bus.specs.BusWorld.{BusWorld, Step, done, refused, start}
+use Rattle.uac_rows.specs.BusWorld.{BusWorld, Step, done, refused, start}
 use Rattle.uac_bus.specs.After.{said_step}
 use Rattle.uac_describe.specs.declared.status.Status.TheVariants as statuses
 use Rattle.uac_describe.specs.Outcome.{End, at_end, read_failed, stopped}

@@ -3,7 +3,7 @@ use Rattle.std.specs.Prelude.{◌≡◌, ◌↔◌, ℕ, ◌+◌, List, length}
 use Rattle.uac_units.specs.Hearing.{Reading}
 use Rattle.uac_lines.specs.ScriptLines.{Head, most_of_input}
 use Rattle.uac_script.specs.LineParsing.{answer}
-use Rattle.uac_bus.specs.BusWorld.{BusWorld, start}
+use Rattle.uac_rows.specs.BusWorld.{BusWorld, start}
 use Rattle.uac_describe.specs.Outcome.{End}
 use Rattle.uac_scripts.specs.ScriptTranscript.{Ending, IsTranscript, rest_by, head_by, lines_by}
 

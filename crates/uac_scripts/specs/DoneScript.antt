@@ -4,8 +4,8 @@ use Rattle.std.specs.List.{AllByRecursion, AllZip}
 use Rattle.uac_units.specs.Hearing.{Reading}
 use Rattle.uac_script.specs.Line.{Says}
 use Rattle.uac_script.specs.Phrase.{Phrase}
-use Rattle.uac_bus.specs.declared.fault.BusFault.{BusFault}
-use Rattle.uac_bus.specs.BusWorld.{start}
+use Rattle.uac_fault.specs.declared.fault.BusFault.{BusFault}
+use Rattle.uac_rows.specs.BusWorld.{start}
 use Rattle.uac_bus.specs.After.{after}
 use Rattle.uac_steady.specs.Scripts.{is_steady_in}
 use Rattle.uac_promises.specs.Promises.{IsAsPromised}

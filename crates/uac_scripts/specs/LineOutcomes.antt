@@ -4,11 +4,11 @@ use Rattle.uac_units.specs.Hearing.{Reading}
 use Rattle.uac_edges.specs.Faults.{Rose}
 use Rattle.uac_lines.specs.declared.lines.LineStop.{LineStop}
 use Rattle.uac_lines.specs.declared.lines.LineStop.TheVariants as stop
-use Rattle.uac_bus.specs.declared.fault.BusFault.{BusFault}
-use Rattle.uac_bus.specs.declared.fault.BusFault.TheVariants as faults
-use Rattle.uac_bus.specs.BusWorld.{Step}
-use Rattle.uac_bus.specs.BusKept.{BusFields}
-use Rattle.uac_bus.specs.BusKept as kept
+use Rattle.uac_fault.specs.declared.fault.BusFault.{BusFault}
+use Rattle.uac_fault.specs.declared.fault.BusFault.TheVariants as faults
+use Rattle.uac_rows.specs.BusWorld.{Step}
+use Rattle.uac_bus.specs.BusKept.{BusFields, BusStands}
+use Rattle.uac_rows.specs.BusSteps.{Does}
 use Rattle.uac_describe.specs.Outcome.{Printed, read_fault}
 use Rattle.uac_scripts.specs.ScriptTranscript.{misread, too_long}
 
@@ -31,7 +31,7 @@ Leaves shown shown' written written' writes writes' faults.NoMemory = IsSilent s
 abbrev pub DoesScriptLine : Step → Bool → BusFields → List Reading → List Reading → Option (List ℕ) → Option (List ℕ) → ℕ → ℕ
     → Result (Unit {0}) BusFault → Type 0
 DoesScriptLine s memory bus shown shown' written written' writes writes' result =
-    kept.Does s memory (kept.BusStands bus shown') written written' result
+    Does s memory (BusStands bus shown') written written' result
     × IfErr result (Leaves shown shown' written written' writes writes')
     × OnOk result (writes' ≡ writes)
 

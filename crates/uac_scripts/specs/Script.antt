@@ -7,9 +7,9 @@ use Rattle.uac_lines.specs.ScriptLines.{most_of_line}
 use Rattle.uac_script.specs.Phrase.{Phrase}
 use Rattle.uac_script.specs.Line.{Says}
 use Rattle.uac_units.specs.Hearing.{Reading}
-use Rattle.uac_bus.specs.declared.fault.BusFault.{BusFault}
-use Rattle.uac_bus.specs.BusWorld.{BusWorld, start}
-use Rattle.uac_bus.specs.BusKept.{may_want}
+use Rattle.uac_fault.specs.declared.fault.BusFault.{BusFault}
+use Rattle.uac_rows.specs.BusWorld.{BusWorld, start}
+use Rattle.uac_rows.specs.BusSteps.{may_want}
 use Rattle.uac_bus.specs.After.{After, after}
 use Rattle.uac_describe.specs.Outcome.{no_memory}
 use Rattle.uac_scripts.specs.ScriptTranscript.{Ending, with_lines_first, ends, last_line}

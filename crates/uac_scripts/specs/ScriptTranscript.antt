@@ -5,9 +5,9 @@ use Rattle.uac_lines.specs.ScriptLines.{Head, line, long, past, unended, head_of
 use Rattle.uac_script.specs.Line.{Says}
 use Rattle.uac_script.specs.Phrase.{Phrase}
 use Rattle.uac_transcript.specs.Transcript.{Said, says_misread, says_too_long}
-use Rattle.uac_bus.specs.declared.fault.BusFault.{BusFault}
-use Rattle.uac_bus.specs.declared.fault.BusFault.TheVariants as faults
-use Rattle.uac_bus.specs.BusWorld.{BusWorld, Step, done, refused, start, finish_of, meters_in}
+use Rattle.uac_fault.specs.declared.fault.BusFault.{BusFault}
+use Rattle.uac_fault.specs.declared.fault.BusFault.TheVariants as faults
+use Rattle.uac_rows.specs.BusWorld.{BusWorld, Step, done, refused, start, finish_of, meters_in}
 use Rattle.uac_bus.specs.After.{said_step}
 use Rattle.uac_describe.specs.declared.status.Status.TheVariants as statuses
 use Rattle.uac_describe.specs.Outcome.{End, at_end, read_failed, stopped, Printed, no_memory, read_fault, refusal, unsound}

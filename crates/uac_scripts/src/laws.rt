@@ -6,7 +6,7 @@ ghost use Rattle.uac_script.specs.Line.{Says};
 ghost use Rattle.uac_lines.specs.ScriptLines.{most_of_input};
 ghost use Rattle.uac_script.specs.Phrase.{Phrase};
 ghost use Rattle.uac_script.specs.LineParsing.{answer};
-ghost use Rattle.uac_bus.specs.BusWorld.{start};
+ghost use Rattle.uac_rows.specs.BusWorld.{start};
 ghost use Rattle.uac_bus.specs.After.{after};
 ghost use Rattle.uac_describe.specs.declared.status.Status.{Status};
 ghost use Rattle.uac_describe.specs.Outcome.{End, stopped};

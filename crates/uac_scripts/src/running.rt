@@ -8,7 +8,7 @@ ghost use Rattle.uac_script.specs.LineParsing.{answer};
 ghost use Rattle.uac_units.specs.Fitting.{IsFitted};
 ghost use Rattle.uac_units.specs.Hearing.{Reading};
 ghost use Rattle.uac_units.specs.MeterReadings.{readings};
-ghost use Rattle.uac_bus.specs.BusWorld.{BusWorld, start};
+ghost use Rattle.uac_rows.specs.BusWorld.{BusWorld, start};
 ghost use Rattle.uac_bus.specs.After.{said_step};
 ghost use Rattle.uac_bus.specs.BusKept.{BusStands};
 ghost use Rattle.uac_scripts.specs.declared.jobs.SourceJob.TheVariants.{Run};

@@ -10,8 +10,8 @@ use Rattle.uac_running.specs.RunningWorld.{RunningWorld, with_detail, with_devia
 use Rattle.uac_running.specs.RunningNames.{are_frames, natural_of_int}
 use Rattle.uac_running.specs.Events.{microframe, microframes}
 use Rattle.uac_running.specs.RunningTransfers.{element_named, read_element, set_element, show_element, transfer, with_break}
-use Rattle.uac_bus.specs.declared.fault.BusFault.{BusFault}
-use Rattle.uac_bus.specs.BusWorld.{silently, tone_of, Step, BusWorld, describing, done, on_element, refused, running, step_running, step_telling, unless}
+use Rattle.uac_fault.specs.declared.fault.BusFault.{BusFault}
+use Rattle.uac_rows.specs.BusWorld.{silently, tone_of, Step, BusWorld, describing, done, on_element, refused, running, step_running, step_telling, unless}
 use Rattle.uac_bands.proofs.BandRunEarlierLemmas.{calls_look_back, looks_back}
 use Rattle.uac_steady.specs.Scripts.{is_steady_in}
 

@@ -3,7 +3,7 @@ use Rattle.std.proofs.Common.{◌≡◌, refl, ℕ, true, List, [], ◌∷◌, m
 use Rattle.uac_descriptor.specs.BlockParsing.{AreBytes}
 use Rattle.uac_script.specs.Phrase.{Phrase, bytes_line}
 use Rattle.uac_script.specs.LineParsing.{answer}
-use Rattle.uac_bus.specs.BusWorld.{Step, BusWorld, describing, done, refused, running, start, step, step_describing}
+use Rattle.uac_rows.specs.BusWorld.{Step, BusWorld, describing, done, refused, running, start, step, step_describing}
 use Rattle.uac_bus.specs.After.{After, after, and_then, said_step}
 use Rattle.uac_steady.specs.Scripts.{IsInBand, IsWithinBands, SteadyScriptsKeepBands, is_steady_in}
 use Rattle.uac_steady.proofs.ScriptsEarlierLemmas.{WasSteady, describing_looks_back, running_looks_back}

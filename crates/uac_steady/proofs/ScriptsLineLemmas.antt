@@ -17,10 +17,11 @@ use Rattle.uac_running.specs.RunningWorld.{RunningWorld}
 use Rattle.uac_running.specs.RunningWorld as world
 use Rattle.uac_running.specs.RunningNames.{natural_of_int}
 use Rattle.uac_running.specs.Events.{microframe, microframes}
-use Rattle.uac_running.specs.RunningLines.{domain_line, report_lines, says_stream, stream_line}
+use Rattle.uac_running.specs.RunningLines.{report_lines}
+use Rattle.uac_report.specs.ReportLines.{domain_line, says_stream, stream_line}
 use Rattle.uac_running.specs.RunningTransfers.{element_named, read_element, set_element, show_element, transfer, after_transfer}
-use Rattle.uac_bus.specs.declared.fault.BusFault.{BusFault}
-use Rattle.uac_bus.specs.BusWorld.{Step, BusWorld, describing, done, refused, running, step_running, step_telling, tone_of}
+use Rattle.uac_fault.specs.declared.fault.BusFault.{BusFault}
+use Rattle.uac_rows.specs.BusWorld.{Step, BusWorld, describing, done, refused, running, step_running, step_telling, tone_of}
 use Rattle.uac_bands.specs.BandRun.{IsNearLevel, IsNoUnder, RunInBand}
 use Rattle.uac_bands.specs.BandTransfers.{IsSoundRun}
 use Rattle.uac_bands.proofs.BeginningsLemmas.{calls_keep_bands}

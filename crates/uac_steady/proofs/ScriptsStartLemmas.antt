@@ -33,8 +33,8 @@ use Rattle.uac_units.specs.Hearing.{Reading}
 use Rattle.uac_running.specs.RunningWorld.{at_start}
 use Rattle.uac_running.specs.RunningLines.{ready_line}
 use Rattle.uac_configuration.specs.Description.{blocks_of, function_of}
-use Rattle.uac_bus.specs.declared.fault.BusFault.{BusFault}
-use Rattle.uac_bus.specs.BusWorld.{Step, describing, done, step_feed, step_go, if_no_fault, if_sound, refused, running, silently, step_describing}
+use Rattle.uac_fault.specs.declared.fault.BusFault.{BusFault}
+use Rattle.uac_rows.specs.BusWorld.{Step, describing, done, step_feed, step_go, if_no_fault, if_sound, refused, running, silently, step_describing}
 use Rattle.uac_configuration.proofs.DescriptionLemmas.{blocks_of_sentence}
 use Rattle.uac_bands.proofs.BeginningsLemmas.{runs_start_in_band}
 use Rattle.uac_bands.proofs.BandTransfersStartLemmas.{runs_start_sound}

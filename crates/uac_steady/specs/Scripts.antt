@@ -5,7 +5,7 @@ use Rattle.std.specs.List.{All}
 use Rattle.uac_units.specs.Hearing.{Reading}
 use Rattle.uac_rate.specs.Steadiness as steadiness
 use Rattle.uac_script.specs.LineParsing.{answer}
-use Rattle.uac_bus.specs.BusWorld.{BusWorld, describing, running, start}
+use Rattle.uac_rows.specs.BusWorld.{BusWorld, describing, running, start}
 use Rattle.uac_bus.specs.After.{After, after}
 use Rattle.uac_bands.specs.BandRun.{IsNearLevel, IsNoUnder, RunInBand}
 

@@ -1,5 +1,5 @@
-use Rattle.std.proofs.Common.{◌∙◌, ap, sym}
-use Rattle.uac_bus.specs.BusKept.{is_final}
+use Rattle.std.proofs.Common.{◌∙◌, ap, sym, arith}
+use Rattle.uac_rows.specs.BusSteps.{is_final}
 use Rattle.uac_bus.proofs.BusWorldDescriptorLemmas.{gone_ill, told_finally, told_unwritten}
 use Rattle.uac_bus.proofs.describing.begin.Goals as goal
 
@@ -12,5 +12,9 @@ returns-in-Err-clause-begins g c = λ shown. gone_ill _ _ c.from.result shown _ 
 pub returns-in-Err-clause-fault : goal.returns-in-Err-clause-fault
 returns-in-Err-clause-fault g c = ap is_final c.from.ensures ∙ told_finally c.in-Err.fault
 
-pub returns-in-Err-clause-cause : goal.returns-in-Err-clause-cause
-returns-in-Err-clause-cause g c = λ write. absurd (told_unwritten c.in-Err.fault (sym c.from.ensures ∙ write))
+pub returns-in-Err-clause-faults : goal.returns-in-Err-clause-faults
+returns-in-Err-clause-faults g c = record {
+  cause = λ write. absurd (told_unwritten c.in-Err.fault (sym c.from.ensures ∙ write));
+  never_falls = omega arith;
+  faultless = tt;
+}

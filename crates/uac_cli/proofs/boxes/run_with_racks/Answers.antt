@@ -4,9 +4,9 @@ use Rattle.uac_units.specs.Hearing.{Reading}
 use Rattle.uac_units.specs.declared.meter.MeterKind.TheVariants.{Peak, Clipped, Sum}
 use Rattle.uac_words.specs.declared.commands.Invocation.{Invocation}
 use Rattle.uac_describe.specs.declared.status.Status.{Status}
-use Rattle.uac_cli.specs.Call.{IsCall}
+use Rattle.uac_call.specs.Call.{IsCall}
 use Rattle.uac_cli.specs.Boxes.{IsFreshCall, fresh_readings}
-use Rattle.uac_cli.specs.Completeness.{IsCompleteCall}
+use Rattle.uac_call.specs.Completeness.{IsCompleteCall}
 use Rattle.uac_cli.proofs.boxes.run_with_racks.OwnLists as lists
 use Rattle.uac_cli.proofs.boxes.run_with_racks.Goals as goal
 
@@ -35,8 +35,8 @@ whole_fresh : (words : Option Invocation) (shown : List Reading) (left : Option 
 whole_fresh words shown left reads reads' written written' writes writes' status same complete =
     subst (λ (s : List Reading). IsCompleteCall words s left reads reads' written written' writes writes' status) same complete
 
-pub returns-clause-call : goal.returns-clause-call
-returns-clause-call g c =
+pub returns-clause-run : goal.returns-clause-run
+returns-clause-run g c =
     let peak : (lists.own-2.entry c.into_dyn_box.result.vtable).1.reading_of c.into_dyn_box.result.value ≡ record { kind = Peak; value = 0 } =
     read_made lists.own-2 (lists.own-2.entry lists.at-2-1) lists.at-2-1 refl Reading (λ j. j.1.reading_of) _ _ _ c.into_dyn_box.ensures.1
     ∙ ap (λ m. (lists.own-2.entry lists.at-2-1).1.reading_of m) c.in_ok-new.ensures.ok ∙ c.new.ensures in
@@ -48,21 +48,14 @@ returns-clause-call g c =
     let sum : (lists.own-2.entry third.result.vtable).1.reading_of third.result.value ≡ record { kind = Sum; value = 0 } =
     read_made lists.own-2 (lists.own-2.entry lists.at-2-3) lists.at-2-3 refl Reading (λ j. j.1.reading_of) _ _ _ third.ensures.1
     ∙ ap (λ m. (lists.own-2.entry lists.at-2-3).1.reading_of m) c.in_ok-new-3.ensures.ok ∙ c.new-5.ensures in
-    from_fresh _ _ _ _ _ _ _ _ _ _ _ _ (c.new-meters.ensures ∙ pushed (λ b. (lists.own-2.entry b.vtable).1.reading_of b.value) c.new-list.result.items c.push.new.self.items c.push-2.new.self.items c.push-3.new.self.items c.into_dyn_box.result c.into_dyn_box-in_ok-new-2.result c.into_dyn_box-in_ok-new-3.result _ _ _
-    c.new-list.ensures.items c.in_ok-push.ensures.items c.in_ok-push-2.ensures.items c.in_ok-push-3.ensures.items peak clipped sum) c.uac_main.ensures.call
-
-pub returns-clause-complete : goal.returns-clause-complete
-returns-clause-complete g c =
-    let peak : (lists.own-2.entry c.into_dyn_box.result.vtable).1.reading_of c.into_dyn_box.result.value ≡ record { kind = Peak; value = 0 } =
-    read_made lists.own-2 (lists.own-2.entry lists.at-2-1) lists.at-2-1 refl Reading (λ j. j.1.reading_of) _ _ _ c.into_dyn_box.ensures.1
-    ∙ ap (λ m. (lists.own-2.entry lists.at-2-1).1.reading_of m) c.in_ok-new.ensures.ok ∙ c.new.ensures in
-    let second = c.into_dyn_box-in_ok-new-2 in
-    let clipped : (lists.own-2.entry second.result.vtable).1.reading_of second.result.value ≡ record { kind = Clipped; value = 0 } =
-    read_made lists.own-2 (lists.own-2.entry lists.at-2-2) lists.at-2-2 refl Reading (λ j. j.1.reading_of) _ _ _ second.ensures.1
-    ∙ ap (λ m. (lists.own-2.entry lists.at-2-2).1.reading_of m) c.in_ok-new-2.ensures.ok ∙ c.new-3.ensures in
-    let third = c.into_dyn_box-in_ok-new-3 in
-    let sum : (lists.own-2.entry third.result.vtable).1.reading_of third.result.value ≡ record { kind = Sum; value = 0 } =
-    read_made lists.own-2 (lists.own-2.entry lists.at-2-3) lists.at-2-3 refl Reading (λ j. j.1.reading_of) _ _ _ third.ensures.1
-    ∙ ap (λ m. (lists.own-2.entry lists.at-2-3).1.reading_of m) c.in_ok-new-3.ensures.ok ∙ c.new-5.ensures in
-    whole_fresh _ _ _ _ _ _ _ _ _ _ (c.new-meters.ensures ∙ pushed (λ b. (lists.own-2.entry b.vtable).1.reading_of b.value) c.new-list.result.items c.push.new.self.items c.push-2.new.self.items c.push-3.new.self.items c.into_dyn_box.result c.into_dyn_box-in_ok-new-2.result c.into_dyn_box-in_ok-new-3.result _ _ _
-    c.new-list.ensures.items c.in_ok-push.ensures.items c.in_ok-push-2.ensures.items c.in_ok-push-3.ensures.items peak clipped sum) c.uac_main.ensures.complete
+    let fresh = c.new-meters.ensures ∙ pushed (λ b. (lists.own-2.entry b.vtable).1.reading_of b.value) c.new-list.result.items c.push.new.self.items c.push-2.new.self.items c.push-3.new.self.items c.into_dyn_box.result c.into_dyn_box-in_ok-new-2.result c.into_dyn_box-in_ok-new-3.result _ _ _
+    c.new-list.ensures.items c.in_ok-push.ensures.items c.in_ok-push-2.ensures.items c.in_ok-push-3.ensures.items peak clipped sum in
+    record {
+      call = from_fresh _ _ _ _ _ _ _ _ _ _ _ _ fresh c.uac_main.ensures.call;
+      read_fault = c.uac_main.ensures.read_fault;
+      write_fault = c.uac_main.ensures.write_fault;
+      faultless = c.uac_main.ensures.faultless;
+      ok = c.uac_main.ensures.ok;
+      complete = whole_fresh _ _ _ _ _ _ _ _ _ _ fresh c.uac_main.ensures.complete;
+      handed_on = c.uac_main.ensures.handed_on;
+    }

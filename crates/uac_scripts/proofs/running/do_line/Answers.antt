@@ -4,8 +4,8 @@ use Rattle.uac_units.specs.MeterReadings.{readings}
 use Rattle.uac_script.specs.Lent.{lent_phrase_result}
 use Rattle.uac_script.specs.Phrase.{Phrase}
 use Rattle.uac_script.specs.LineParsing.{answer}
-use Rattle.uac_bus.specs.declared.fault.BusFault.{BusFault}
-use Rattle.uac_bus.specs.BusWorld.{BusWorld}
+use Rattle.uac_fault.specs.declared.fault.BusFault.{BusFault}
+use Rattle.uac_rows.specs.BusWorld.{BusWorld}
 use Rattle.uac_bus.specs.After.{said_step}
 use Rattle.uac_bus.specs.BusKept.{BusFields}
 use Rattle.uac_scripts.specs.LineOutcomes.{DoesScriptLine}

@@ -1,5 +1,5 @@
 use Rattle.std.proofs.Common.{◌∙◌}
-use Rattle.uac_bus.specs.declared.fault.BusFault.TheVariants as faults
+use Rattle.uac_fault.specs.declared.fault.BusFault.TheVariants as faults
 use Rattle.uac_describe.proofs.AnsweredLemmas.{alone, memory_text}
 use Rattle.uac_scripts.proofs.RunLinesLemmas.{closes_last}
 use Rattle.uac_scripts.proofs.running.refuse_line.Goals as goal

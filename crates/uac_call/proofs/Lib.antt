@@ -1,0 +1,5 @@
+pub mod ScriptRunLemmas
+pub mod CallLemmas
+pub mod CompletenessLemmas
+pub mod GeneratedCallLemmas
+pub mod CallHandingOnLemmas

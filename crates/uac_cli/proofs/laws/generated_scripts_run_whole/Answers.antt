@@ -1,5 +1,0 @@
-use Rattle.uac_cli.proofs.GeneratedCallLemmas.{generated_scripts_run_whole}
-use Rattle.uac_cli.proofs.laws.generated_scripts_run_whole.Goals as goal
-
-pub returns : goal.returns
-returns c = generated_scripts_run_whole

@@ -1,0 +1,4 @@
+pub mod BusStepsLemmas
+pub mod RowsLemmas
+pub mod HostCallsFrameLemmas
+pub mod BusWorldElementLemmas
