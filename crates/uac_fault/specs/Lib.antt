@@ -1,3 +1,3 @@
 -- Why a line of a script isn't done.
--- What the contracts below it cite: steps of the code, no part of what is promised.
+-- What the contracts below them cite: steps of the code, no part of what is promised.
 pub mod DescriptorFaults
