@@ -125,7 +125,11 @@ fn report<K: Sink>(running: &Running, meters: &Meters, sink: &mut K) -> Result<(
     Ok(())
 }
 
-/// Does a line of the running device.
+/// Does a line of the running device. The line `a` alone takes memory.
+///
+/// # Errors
+///
+/// A rule of the script that the line breaks, 5, 6 or 7; nothing is changed. A write that failed; want of memory.
 pub fn play<K: Sink>(
     running: &mut Running,
     line: LentLine<'_>,
