@@ -1,7 +1,7 @@
 """What the tools share: their words, input and output, the program that they ask, and the rules' sentences, which stand once, in docs/."""
 import os, re, subprocess, sys
 
-TOP = os.path.dirname(os.path.dirname(os.path.abspath(__file__)))
+TOP = os.path.dirname(os.path.dirname(os.path.dirname(os.path.abspath(__file__))))
 # The program that is asked; the environment may name another, as a build that stands elsewhere.
 PROGRAM = os.environ.get("UAC_CLI") or os.path.join(TOP, "uac_cli")
 
