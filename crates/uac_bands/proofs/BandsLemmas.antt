@@ -11,7 +11,7 @@ use Rattle.uac_rate.specs.Steadiness.{latest_run}
 use Rattle.uac_rate.proofs.LevelsLemmas.{falls_due, filled, interval_robust, interval_size, primed_robust, rates_band, robust_near, whole_packets}
 use Rattle.uac_alt.specs.AltStreams.{StreamFields}
 use Rattle.uac_flow.specs.FlowStreams.{OutStream, after_packet, after_ticks, arrival_of, frames_of, is_dry, is_due, out_level, priming_level, target_after, takes_all}
-use Rattle.uac_flow.specs.declared.arrival.Arrival.TheVariants as arrival
+use Rattle.uac_ring.specs.declared.arrival.Arrival.TheVariants as arrival
 use Rattle.uac_host.specs.HostCalls.{next_size, pace_after_packet}
 use Rattle.uac_bands.specs.Life.{Life, life_after, ticks_taken, with_end, with_feedback, with_step}
 use Rattle.uac_bands.specs.Bands.{EndsNear, HasTicked, HoldsBetween, HoldsEnough, InBand, IsAt, IsFollowing, IsFilling, IsSteadyMicroframe, NeverDry, NeverOver, StartsInBand, StaysInBand, microframes_since_due, stream_at_tick, ticks_then}

@@ -7,15 +7,14 @@ use Rattle.std.proofs.lemmas.List.Elements.{All-append, All-cons, All-nil}
 use Rattle.std.proofs.lemmas.Map.Keys.{IsDistinct-head, IsDistinct-tail}
 use Rattle.uac_entities.specs.declared.entity.Entity.{Entity}
 use Rattle.uac_entities.specs.declared.stream.StreamInterface.{StreamInterface}
-use Rattle.uac_flow.specs.declared.arrival.Arrival.{Arrival}
-use Rattle.uac_flow.specs.declared.arrival.Arrival.TheVariants as arrivals
+use Rattle.uac_ring.specs.declared.arrival.Arrival.{Arrival}
+use Rattle.uac_ring.specs.declared.arrival.Arrival.TheVariants as arrivals
 use Rattle.uac_device.specs.DeviceWorld.{DeviceWorld, arrival_in, feedback_in, frames_in, is_due_in, level_of, packet_in, after_settling, target_of, after_tick}
 use Rattle.uac_host.specs.HostCalls.{heard_in, size_of}
 use Rattle.uac_script.specs.Phrase.{PhraseMark}
-use Rattle.uac_transcript.specs.declared.packets.PrintedArrival as printed
 use Rattle.uac_transcript.specs.Transcript.{Said, says_feedback, says_frame, says_in, says_level, says_out, says_over, says_played, says_time, says_under}
 use Rattle.uac_streaming.specs.Telling.{Telling, without_event, in_turn}
-use Rattle.uac_streaming.specs.StreamingWorld.{StreamingWorld, all_reported, all_settled, arrived_as, fetched_lines, finds_empty, finds_full, found_lines, goes_out, in_lines, in_packet_turn, in_packets, is_in_due, is_out_due, loses_in, loses_out, loses_report, numbers, out_lines, out_packets, out_turn, over_lines, packet_fetched, packet_sent, packet_to, feedback_lines, report_made, report_turn, sent_lines, settled_turn}
+use Rattle.uac_streaming.specs.StreamingWorld.{StreamingWorld, all_reported, all_settled, fetched_lines, finds_empty, finds_full, found_lines, goes_out, in_lines, in_packet_turn, in_packets, is_in_due, is_out_due, loses_in, loses_out, loses_report, numbers, out_lines, out_packets, out_turn, over_lines, packet_fetched, packet_sent, packet_to, feedback_lines, report_made, report_turn, sent_lines, settled_turn}
 use Rattle.uac_units.specs.Hearing.{at_most_u64}
 use Rattle.uac_running.specs.RunningWorld.{RunningWorld, streaming_of, with_streaming}
 use Rattle.uac_running.specs.Events.{all_domains, after_all_jacks, domain_microframe, domain_microframes, ends_and_reports, followed_by, microframe, number_said, of_streams, packets_and_ticks, tick, tick_times}
@@ -24,7 +23,7 @@ use Rattle.uac_report.specs.ReportLines.{output_jacks, played_line, played_lines
 -- it holds of every line that a microframe says but those of rings found empty or full, and of levels
 pub record IsQuiet (N : Said → Type 0) : Type 0 where
   pub time : (number : ℕ) → N (says_time number)
-  pub out : (interface frames : ℕ) (arrival : printed.PrintedArrival) → N (says_out interface frames arrival)
+  pub out : (interface frames : ℕ) (arrival : Arrival) → N (says_out interface frames arrival)
   pub in_ : (interface frames : ℕ) (lost : Bool) → N (says_in interface frames lost)
   pub frame : (interface : ℕ) (samples : List ℤ) → N (says_frame interface samples)
   pub played : (terminal : ℕ) (samples : List ℤ) → N (says_played terminal samples)
@@ -119,8 +118,8 @@ module _ (N : Said → Type 0) (quiet : IsQuiet N) where
   out_quiet : (detail interface frames : ℕ) (arrival : Arrival) → All N (over_lines interface arrival)
       → All N (out_lines detail interface frames arrival)
   out_quiet detail interface frames arrival overs =
-      All-append N (if nat_le 2 detail then says_out interface frames (arrived_as arrival) ∷ [] else []) (over_lines interface arrival)
-      (maybe_one (nat_le 2 detail) (says_out interface frames (arrived_as arrival)) (quiet.out interface frames (arrived_as arrival))) overs
+      All-append N (if nat_le 2 detail then says_out interface frames arrival ∷ [] else []) (over_lines interface arrival)
+      (maybe_one (nat_le 2 detail) (says_out interface frames arrival) (quiet.out interface frames arrival)) overs
 
   pub out_turn_says : (detail : ℕ) (marks : List PhraseMark) (n : ℕ) (w : StreamingWorld)
       → (is_out_due w n ≡ true → All N (over_lines n (arrival_in w.device n (packet_to (loses_out marks n) n w))))

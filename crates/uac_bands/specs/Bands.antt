@@ -9,7 +9,7 @@ use Rattle.uac_rate.specs.Levels.{AreIntervals, IsSafeLevel, IsRobust, Point, Wi
 use Rattle.uac_rate.specs.Steadiness.{latest_run}
 use Rattle.uac_alt.specs.AltStreams.{StreamFields}
 use Rattle.uac_flow.specs.FlowStreams.{OutStream, after_ticks, arrival_of, frames_of, is_dry, is_due, out_level, priming_level, started_out}
-use Rattle.uac_flow.specs.declared.arrival.Arrival.TheVariants as arrival
+use Rattle.uac_ring.specs.declared.arrival.Arrival.TheVariants as arrival
 use Rattle.uac_host.specs.HostCalls.{next_size, fresh_pace}
 use Rattle.uac_bands.specs.Life.{Life, life_after, ticks_taken, with_packet}
 

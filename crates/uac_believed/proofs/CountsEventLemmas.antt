@@ -11,12 +11,12 @@ use Rattle.uac_clock.specs.Ticks.{ticks_in}
 use Rattle.uac_topology.specs.Function.{FunctionFields, interface_in}
 use Rattle.uac_graph.proofs.NeedsLemmas.{needed_few}
 use Rattle.uac_units.specs.Hearing.{at_most_u64}
-use Rattle.uac_flow.specs.declared.arrival.Arrival.{Arrival}
-use Rattle.uac_flow.specs.declared.arrival.Arrival.TheVariants as arrivals
+use Rattle.uac_ring.specs.declared.arrival.Arrival.{Arrival}
+use Rattle.uac_ring.specs.declared.arrival.Arrival.TheVariants as arrivals
 use Rattle.uac_device.specs.DeviceWorld.{DeviceWorld, Domain, after_advance, arrival_in, feedback_in, next_ticks, after_receiving, renders_of, after_sending_packet, set_jack, after_settling, step_in, steps_with_next, after_tick}
 use Rattle.uac_device.specs.DeviceKept.{IsDeviationInRange}
 use Rattle.uac_script.specs.Phrase.{PhraseMark}
-use Rattle.uac_transcript.specs.declared.report.StreamCounts.{StreamCounts}
+use Rattle.uac_ring.specs.declared.counts.StreamCounts.{StreamCounts}
 use Rattle.uac_streaming.specs.Telling.{Telling, without_event, in_turn}
 use Rattle.uac_streaming.specs.StreamingWorld.{StreamingWorld, after_arrival, all_reported, all_settled, counted_at, fetched_lines, finds_empty, finds_full, found_counts, in_packet_turn, in_packets, is_in_due, is_out_due, loses_in, loses_out, loses_report, numbers, one_lost, one_missed, one_over, one_under, out_packets, out_turn, packet_fetched, packet_sent, packet_to, feedback_lines, report_made, report_turn, sent_lines, settled_turn}
 use Rattle.uac_streaming.proofs.RoomLemmas.{next_few}

@@ -5,7 +5,7 @@ use Rattle.std.specs.List.{All}
 use Rattle.uac_units.specs.Hearing.{Reading}
 use Rattle.uac_lines.specs.ScriptLines.{most_of_input}
 use Rattle.uac_script.specs.LineParsing.{answer}
-use Rattle.uac_transcript.specs.declared.report.StreamCounts.{StreamCounts}
+use Rattle.uac_ring.specs.declared.counts.StreamCounts.{StreamCounts}
 use Rattle.uac_running.specs.RunningWorld.{RunningWorld}
 use Rattle.uac_report.specs.ReportLines.{ticks_since}
 use Rattle.uac_rows.specs.BusWorld.{BusWorld, describing, running, start}

@@ -20,7 +20,7 @@ use Rattle.uac_alt.specs.AltStreams.{StreamFields}
 use Rattle.uac_flow.specs.FlowStreams.{InStream, OutStream, after_packet, after_putting, after_sending, after_taking, arrival_of, feedback_of, is_due, sent_packet, settled_in, settled_out, started_out}
 use Rattle.uac_device_streams.specs.InterfaceStreams.{bits_of}
 use Rattle.uac_device.specs.DeviceWorld.{DeviceWorld, after_advance, feedback_in, input_of, is_due_in, level_of, met_of, next_ticks, after_receiving, after_restart, after_sending_packet, after_settling, step_in, streamed_frame, target_of, after_tick}
-use Rattle.uac_flow.specs.declared.arrival.Arrival.TheVariants as arrival
+use Rattle.uac_ring.specs.declared.arrival.Arrival.TheVariants as arrival
 
 abbrev with : ℕ → EntityKind → ℕ → List ℕ → ℕ → Entity
 with id k type sources channels =

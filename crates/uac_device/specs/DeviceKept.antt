@@ -1,6 +1,7 @@
 -- What a device keeps, and for which worlds it stands.
 use Rattle.std.specs.Prelude.{◌≡◌, ℕ, ◌%◌, ◌<◌, ◌==◌, ◌≤ℤ◌, true, false, ℤ, pos, negsuc, List, map, sum, None, Some}
 use Rattle.std.specs.List.{All, find}
+use Rattle.std.specs.Option.{option_map}
 use Rattle.uac_topology_rules.specs.Clusters.{is_input}
 use Rattle.uac_topology_rules.specs.Rules.{is_output}
 use Rattle.uac_topology.specs.Function.{FunctionFields}
@@ -8,11 +9,13 @@ use Rattle.uac_store.specs.declared.keys.Key.{Key}
 use Rattle.uac_store.specs.StoreControls.{IsStoreOf}
 use Rattle.uac_request.specs.Requests.{AreSettingsOf, AnswerFields, after_request, request_state, reply_of}
 use Rattle.uac_request.specs.declared.setup.Setup.{Setup}
+use Rattle.uac_alt.specs.AltStreams.{stream_fields}
 use Rattle.uac_alt.specs.declared.settings.InterfaceSetting.{InterfaceSetting}
 use Rattle.uac_graph.specs.Wiring.{Frames, AreWiresOf, frame_on, silence}
 use Rattle.uac_device.specs.declared.clocks.DomainClock.{DomainClock}
 use Rattle.uac_device_streams.specs.declared.device_stream.DeviceStream.{DeviceStream}
-use Rattle.uac_device.specs.DeviceWorld.{Domain, DeviceWorld, after_control, entity_in, is_jack}
+use Rattle.uac_device.specs.declared.streams.Begun.{Begun}
+use Rattle.uac_device.specs.DeviceWorld.{BegunFields, Domain, DeviceWorld, after_control, entity_in, is_jack}
 use Rattle.uac_device_streams.specs.DeviceStreams.{DeviceStreamsStand, port_of, ports}
 
 -- what a device is seen as: of its clocks it keeps the phase alone, and its frames are those on the wires
@@ -63,3 +66,7 @@ pub record IsControlled (p : Setup) (bytes : List ℕ) (told : AnswerFields) (ol
   pub held : request_state new.controls new.settings ≡ after_request old.function (request_state old.controls old.settings) p bytes
   pub function : new.function ≡ old.function
   pub stands : (w : DeviceWorld) → DeviceStands old w → DeviceStands new (after_control p bytes w)
+
+-- what a request began, as it is seen
+abbrev pub begun_fields : Begun → BegunFields
+begun_fields begun = record { interface = begun.interface; stream = option_map stream_fields begun.stream }

@@ -22,14 +22,14 @@ use Rattle.uac_units.specs.Hearing.{Reading, after_hearing}
 use Rattle.uac_alt.specs.declared.settings.InterfaceSetting.{InterfaceSetting}
 use Rattle.uac_alt.specs.AltSettings.{initial_settings}
 use Rattle.uac_alt.specs.AltStreams.{StreamFields, stream_of}
-use Rattle.uac_request.specs.Requests.{after_request, request_state, is_done_answer, rate_at, reply_of, sets_interface}
+use Rattle.uac_request.specs.Requests.{AnswerFields, after_request, request_state, is_done_answer, rate_at, reply_of, sets_interface}
 use Rattle.uac_request.specs.declared.setup.Setup.{Setup}
 use Rattle.uac_flow.specs.FlowStreams.{InStream, OutStream, after_packet, after_putting, after_sending, after_taking, after_ticks}
 use Rattle.uac_flow.specs.FlowStreams.{arrival_of}
 use Rattle.uac_flow.specs.FlowStreams.{feedback_of, is_dry, is_full, next_taken, sent_frames, sent_packet, settled_in, settled_out}
 use Rattle.uac_flow.specs.Flows.{ZerosFit}
-use Rattle.uac_flow.specs.declared.arrival.Arrival.{Arrival}
-use Rattle.uac_flow.specs.declared.arrival.Arrival.TheVariants as arrival
+use Rattle.uac_ring.specs.declared.arrival.Arrival.{Arrival}
+use Rattle.uac_ring.specs.declared.arrival.Arrival.TheVariants as arrival
 use Rattle.uac_device_streams.specs.InterfaceStreams.{bits_of, streams_changed_at, changed_where, either_due, in_from, level_in, out_from}
 use Rattle.uac_device_streams.specs.InterfaceStreams.{streams_replaced_at}
 use Rattle.uac_device_streams.specs.InterfaceStreams.{runs_either}
@@ -259,6 +259,18 @@ unfoldable pub stream_in_setting : FunctionFields → List (Key × ℤ) → ℕ 
 stream_in_setting function controls interface setting =
     option_and_then (λ s. option_and_then (λ rate. stream_of function rate interface setting) (rate_at function controls s))
     (interface_in function interface)
+
+-- what a request begins: an interface, whose stream starts anew, or stops where none is given
+pub record BegunFields : Type 0 where
+  pub interface : ℕ
+  pub stream : Option StreamFields
+
+-- a setting that is set begins its interface; what a request is told otherwise begins nothing
+unfoldable pub begun_by : FunctionFields → List (Key × ℤ) → Setup → AnswerFields → Option BegunFields
+begun_by function controls p told =
+    if sets_interface p && is_done_answer told
+    then Some (record { interface = p.index; stream = stream_in_setting function controls p.index p.value })
+    else None
 
 -- an interface's stream starts anew, or stops where none is given
 unfoldable pub after_restart : ℕ → Option StreamFields → DeviceWorld → DeviceWorld

@@ -7,12 +7,12 @@ ghost use Rattle.uac_pcm.specs.Tones.{tone_frame};
 ghost use Rattle.uac_units.specs.Fitting.{IsFitted};
 ghost use Rattle.uac_units.specs.MeterReadings.{readings};
 ghost use Rattle.uac_device.specs.DeviceWorld.{DeviceWorld, ZerosFitIn, after_advance, after_frames, arrival_in, after_deviation};
-ghost use Rattle.uac_device.specs.DeviceWorld.{feedback_in};
+ghost use Rattle.uac_device.specs.DeviceWorld.{begun_by, feedback_in};
 ghost use Rattle.uac_device.specs.DeviceWorld.{frames_in, fresh, heard_of, is_due_in, is_input_jack, is_output_jack, level_of, met_of};
 ghost use Rattle.uac_device.specs.DeviceWorld.{next_ticks, packet_in, played_at, after_receiving, renders_of, runs_one};
 ghost use Rattle.uac_device.specs.DeviceWorld.{after_sending_packet, set_jack, after_settling};
 ghost use Rattle.uac_device.specs.DeviceWorld.{target_of, after_tick};
-ghost use Rattle.uac_device.specs.DeviceKept.{IsControlled, DeviceStands};
+ghost use Rattle.uac_device.specs.DeviceKept.{IsControlled, DeviceStands, begun_fields};
 ghost use Rattle.uac_device.specs.Stillness.{IsStill};
 ghost use Rattle.uac_device_streams.specs.InterfaceStreams.{NoneRuns};
 ghost use Rattle.uac_request.specs.Requests.{answer_fields};
@@ -22,7 +22,7 @@ use crate::derived::Derived;
 use crate::hearing::hear;
 use crate::rest::Rest;
 use crate::still::{begin_unless, put_unless};
-use crate::streams::{is_done, sets_interface, stream_asked};
+use crate::streams::{Acted, Begun, is_done, sets_interface, stream_asked};
 use crate::terminals::is_output_jack;
 use std::alloc::Global;
 use std::marker::Model;
@@ -205,6 +205,16 @@ impl Device {
     pub fn control(&mut self, setup: &Setup, sent: &[u8]) -> Answer
         ensures { IsControlled setup.now sent.now (answer_fields result) self.old self.new }
     {
+        self.act(setup, sent).answer
+    }
+
+    /// Answers a control request, as `control`, and tells what it began.
+    #[inline(always)]
+    pub fn act(&mut self, setup: &Setup, sent: &[u8]) -> Acted
+        ensures controlled { IsControlled setup.now sent.now (answer_fields result.answer) self.old self.new }
+        ensures began { option_map begun_fields result.began
+            ≡ begun_by self.old.function self.old.controls setup.now (answer_fields result.answer) }
+    {
         functions_are_sound(&self.function);
         let begun = stream_asked(&self.function, &self.store, setup.index, setup.value);
         let answer = answer(
@@ -218,8 +228,18 @@ impl Device {
             .follow(&self.graph, &self.function, &self.store, setup);
         if sets_interface(setup) && is_done(&answer) {
             self.device_streams.restart(setup.index, begun);
+            return Acted {
+                answer,
+                began: Some(Begun {
+                    interface: setup.index,
+                    stream: begun,
+                }),
+            };
         }
-        answer
+        Acted {
+            answer,
+            began: None,
+        }
     }
 
     /// A domain's clock is off by so many ppm from now on. A number of no domain changes nothing.

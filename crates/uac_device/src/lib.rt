@@ -21,7 +21,7 @@ mod terminals;
 
 pub use clocks::DomainClock;
 pub use device::Device;
-pub use streams::{is_done, sets_interface, stream_asked};
+pub use streams::{Acted, Begun};
 pub use terminals::{is_input_jack, is_output_jack, is_output_jack_of};
 pub use uac_device_streams::Ticked;
 pub use uac_flow::Arrival;

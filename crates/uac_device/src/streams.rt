@@ -13,15 +13,29 @@ use uac_request::{Answer, Setup};
 use uac_store::Store;
 use uac_topology::{Function, StreamInterface};
 
+/// What a request began: an interface, by the number in its wIndex, whose stream starts anew, or stops where the new setting has none.
+#[derive(Clone, Copy, Debug, PartialEq, Eq)]
+pub struct Begun {
+    pub interface: u16,
+    pub stream: Option<Stream>,
+}
+
+/// What a device answered to a request, and what the request began, if anything.
+#[derive(Debug)]
+pub struct Acted {
+    pub answer: Answer,
+    pub began: Option<Begun>,
+}
+
 /// Whether a request sets an interface's setting (USB 2.0, 9.4.10).
-pub fn sets_interface(setup: &Setup) -> bool
+pub(crate) fn sets_interface(setup: &Setup) -> bool
     ensures { result ≡ requests.sets_interface setup.now }
 {
     setup.request_type == 1 && setup.request == 11
 }
 
 /// Whether an answer is that the request is done.
-pub fn is_done(answer: &Answer) -> bool
+pub(crate) fn is_done(answer: &Answer) -> bool
     ensures { result ≡ requests.is_done_answer (requests.answer_fields answer.now) }
 {
     match answer {
@@ -31,7 +45,7 @@ pub fn is_done(answer: &Answer) -> bool
 }
 
 /// The stream of an interface in a setting, at the rate of its terminal's clock now; None where there is none.
-pub fn stream_asked(
+pub(crate) fn stream_asked(
     function: &Function,
     store: &Store,
     interface: u16,

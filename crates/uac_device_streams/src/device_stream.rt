@@ -6,7 +6,7 @@ ghost use Rattle.uac_graph.specs.Wiring.{frame_on, samples_on, silence};
 ghost use Rattle.uac_flow.specs.Flows.{CanRun, IsOutFlow, OutStands, ZerosFit};
 ghost use Rattle.uac_flow.specs.FlowStreams.{InStream, OutStream, after_packet, after_sending, after_taking, arrival_of, feedback_of};
 ghost use Rattle.uac_flow.specs.FlowStreams.{is_dry, next_taken, sent_frames, sent_packet, settled_in, settled_out};
-ghost use Rattle.uac_flow.specs.declared.arrival.Arrival.TheVariants as arrival;
+ghost use Rattle.uac_ring.specs.declared.arrival.Arrival.TheVariants as arrival;
 ghost use Rattle.uac_device_streams.specs.InterfaceStreams.{either_due, in_from, level_in, out_from};
 ghost use Rattle.uac_device_streams.specs.DeviceStreams.{FitsPort, IsFlow, IsDeviceStream, FlowStands, DeviceStreamStands, Changes};
 ghost use Rattle.uac_device_streams.specs.DeviceStreams.{IsWiredIn, IsWiredOut, stream_counted_on, is_found_dry};

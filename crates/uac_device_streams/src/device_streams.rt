@@ -6,7 +6,7 @@ ghost use Rattle.uac_alt.specs.AltStreams.{stream_fields};
 ghost use Rattle.uac_flow.specs.Flows.{ZerosFit};
 ghost use Rattle.uac_flow.specs.FlowStreams.{InStream, OutStream, after_packet, after_sending, arrival_of, feedback_of, sent_frames};
 ghost use Rattle.uac_flow.specs.FlowStreams.{sent_packet, settled_in, settled_out};
-ghost use Rattle.uac_flow.specs.declared.arrival.Arrival.TheVariants as arrival;
+ghost use Rattle.uac_ring.specs.declared.arrival.Arrival.TheVariants as arrival;
 ghost use Rattle.uac_device_streams.specs.InterfaceStreams.{NoneRuns, streams_changed_at, either_due, in_from, level_in, out_from};
 ghost use Rattle.uac_device_streams.specs.InterfaceStreams.{streams_replaced_at};
 ghost use Rattle.uac_device_streams.specs.InterfaceStreams.{runs_either};

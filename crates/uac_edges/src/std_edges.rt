@@ -1,7 +1,8 @@
 // The real edges: any reader as a source, and any writer as a sink.
-ghost use Rattle.std.specs.Prelude.{◌≡◌, ◌<◌, ◌≤◌, length, IfOk, OnOk, OnErr, IsErr};
+ghost use Rattle.std.specs.Prelude.{◌≡◌, ◌≢◌, ◌<◌, ◌≤◌, length, true, false, IfErr, IfOk, OnOk, OnErr, IsErr};
+ghost use Rattle.std.specs.IoError.{error_kind};
 ghost use Rattle.std.specs.Io.KnownBytes.{Keeps, ReadConsumes, WriteAppends};
-ghost use Rattle.uac_edges.specs.Faults.{HasCause};
+ghost use Rattle.uac_edges.specs.Faults.{HasCause, Rose};
 ghost use Rattle.uac_edges.specs.Memory.{raised_count};
 ghost use Rattle.uac_edges.specs.StdEdges.{without_last};
 
@@ -38,9 +39,7 @@ impl<R: Read + Drop> Source for StdSource<R> {
         ensures cause { HasCause self.old.faults self.new.faults result }
         ensures counted { OnErr result (self.new.faults ≡ raised_count self.old.faults) }
     {
-        let taken = read_some(&mut self.input, into);
-        self.faults = faults_after(self.faults, taken);
-        taken
+        read_some(&mut self.input, &mut self.faults, into)
     }
 }
 
@@ -76,20 +75,19 @@ impl<W: Write + Drop> StdSink<W> {
         ensures fits { IfOk result (λ n. n ≤ length piece.now) }
         ensures bytes { WriteAppends (without_last self.old.unflushed (W.contents self.old.output))
             (without_last self.new.unflushed (W.contents self.new.output)) result piece.now }
-        ensures faults { self.new.faults ≡ self.old.faults }
-        ensures stuck { 0 < self.old.unflushed → IsErr result × (self.new ≡ self.old) }
+        ensures cause { HasCause self.old.faults self.new.faults result }
+        ensures counted { OnErr result (self.new.faults ≡ raised_count self.old.faults) }
+        ensures stuck { 0 < self.old.unflushed
+            → IsErr result × (self.new.output ≡ self.old.output) × (self.new.unflushed ≡ self.old.unflushed) }
     {
         if self.unflushed > 0 {
+            self.faults = self.faults.saturating_add(1);
             return Err(Failed);
         }
-        let count = write_some(&mut self.output, piece)?;
-        match flush(&mut self.output) {
-            Ok(()) => Ok(count),
-            Err(failed) => {
-                self.unflushed = count;
-                Err(failed)
-            }
-        }
+        let count = write_some(&mut self.output, &mut self.faults, piece)?;
+        self.unflushed = count;
+        flush(&mut self.output, &mut self.unflushed, &mut self.faults)?;
+        Ok(count)
     }
 }
 
@@ -113,9 +111,7 @@ impl<W: Write + Drop> Sink for StdSink<W> {
         ensures stuck { 0 < self.old.unflushed
             → IsErr result × (self.new.output ≡ self.old.output) × (self.new.unflushed ≡ self.old.unflushed) }
     {
-        let given = self.write(piece);
-        self.faults = faults_after(self.faults, given);
-        given
+        self.write(piece)
     }
 
     /// Does nothing, since each write was flushed and nothing waits.
@@ -131,69 +127,158 @@ impl<W: Write + Drop> Sink for StdSink<W> {
     }
 }
 
-// The count of faults after a call that answered so: one more where it failed, up to the type's end.
-fn faults_after(faults: u64, answer: Result<usize, Failed>) -> u64
-    ensures ok { OnOk answer (result ≡ faults) }
-    ensures err { OnErr answer (result ≡ raised_count faults) }
+// Whether a call was interrupted.
+fn is_interrupted(error: &Error) -> bool
+    ensures yes { result ≡ true → error_kind error.now ≡ ErrorKind.Interrupted }
+    ensures no { result ≡ false → error_kind error.now ≢ ErrorKind.Interrupted }
 {
-    match answer {
-        Ok(_) => faults,
-        Err(Failed) => faults.saturating_add(1),
-    }
+    error.kind() == ErrorKind::Interrupted
 }
 
-// Whether a call was interrupted.
-fn is_interrupted(error: &Error) -> bool {
-    error.kind() == ErrorKind::Interrupted
+// One read. A failure is counted, unless the read was interrupted.
+#[tactic(auto, using(crate::proofs::StdEdgesLemmas::keeping))]
+fn read_once<R: Read>(input: &mut R, faults: &mut u64, into: &mut [u8]) -> Result<usize, Error>
+    ensures fits { IfOk result (λ n. n ≤ length into.new) }
+    ensures bytes { ReadConsumes (R.remaining input.old) (R.remaining input.new) result into.new }
+    ensures ok { OnOk result (faults.new ≡ faults.old) }
+    ensures interrupted { IfErr result (λ e. error_kind e ≡ ErrorKind.Interrupted → faults.new ≡ faults.old) }
+    ensures failed { IfErr result (λ e. error_kind e ≢ ErrorKind.Interrupted → faults.new ≡ raised_count faults.old) }
+    ensures rose { IfErr result (λ e. error_kind e ≢ ErrorKind.Interrupted → Rose faults.old faults.new) }
+    ensures never_falls { faults.old ≤ faults.new }
+{
+    match input.read(into) {
+        Ok(read) => Ok(read),
+        Err(error) => {
+            if !is_interrupted(&error) {
+                *faults = faults.saturating_add(1);
+            }
+            Err(error)
+        }
+    }
 }
 
 // One read, as often as it is interrupted.
 #[tactic(auto, using(crate::proofs::StdEdgesLemmas::keeping))]
-fn read_some<R: Read>(input: &mut R, into: &mut [u8]) -> Result<usize, Failed>
+fn read_some<R: Read>(input: &mut R, faults: &mut u64, into: &mut [u8]) -> Result<usize, Failed>
     ensures fits { IfOk result (λ n. n ≤ length into.new) }
     ensures bytes { ReadConsumes (R.remaining input.old) (R.remaining input.new) result into.new }
+    ensures cause { HasCause faults.old faults.new result }
+    ensures counted { OnErr result (faults.new ≡ raised_count faults.old) }
 {
     for _ in 0..u64::MAX {
-        match input.read(into) {
+        match read_once(input, faults, into) {
             Ok(read) => return Ok(read),
-            Err(error) if is_interrupted(&error) => {}
-            Err(_) => return Err(Failed),
+            Err(error) => {
+                if !is_interrupted(&error) {
+                    return Err(Failed);
+                }
+            }
         }
     }
+    *faults = faults.saturating_add(1);
     Err(Failed)
+}
+
+// One write. A failure is counted, unless the write was interrupted.
+#[tactic(auto, using(crate::proofs::StdEdgesLemmas::keeping))]
+fn write_once<W: Write>(output: &mut W, faults: &mut u64, piece: &[u8]) -> Result<usize, Error>
+    ensures fits { IfOk result (λ n. n ≤ length piece.now) }
+    ensures bytes { WriteAppends (W.contents output.old) (W.contents output.new) result piece.now }
+    ensures ok { OnOk result (faults.new ≡ faults.old) }
+    ensures interrupted { IfErr result (λ e. error_kind e ≡ ErrorKind.Interrupted → faults.new ≡ faults.old) }
+    ensures failed { IfErr result (λ e. error_kind e ≢ ErrorKind.Interrupted → faults.new ≡ raised_count faults.old) }
+    ensures rose { IfErr result (λ e. error_kind e ≢ ErrorKind.Interrupted → Rose faults.old faults.new) }
+    ensures never_falls { faults.old ≤ faults.new }
+{
+    match output.write(piece) {
+        Ok(written) => Ok(written),
+        Err(error) => {
+            if !is_interrupted(&error) {
+                *faults = faults.saturating_add(1);
+            }
+            Err(error)
+        }
+    }
 }
 
 // One write, as often as it is interrupted. It fails where it takes nothing.
 #[tactic(auto, using(crate::proofs::StdEdgesLemmas::keeping))]
-fn write_some<W: Write>(output: &mut W, piece: &[u8]) -> Result<usize, Failed>
+fn write_some<W: Write>(output: &mut W, faults: &mut u64, piece: &[u8]) -> Result<usize, Failed>
     requires { 0 < length piece.now }
     ensures some { IfOk result (λ n. 0 < n) }
     ensures fits { IfOk result (λ n. n ≤ length piece.now) }
     ensures bytes { WriteAppends (W.contents output.old) (W.contents output.new) result piece.now }
+    ensures cause { HasCause faults.old faults.new result }
+    ensures counted { OnErr result (faults.new ≡ raised_count faults.old) }
 {
     for _ in 0..u64::MAX {
-        match output.write(piece) {
-            Ok(0) => return Err(Failed),
+        match write_once(output, faults, piece) {
+            Ok(0) => {
+                *faults = faults.saturating_add(1);
+                return Err(Failed);
+            }
             Ok(written) => return Ok(written),
-            Err(error) if is_interrupted(&error) => {}
-            Err(_) => return Err(Failed),
+            Err(error) => {
+                if !is_interrupted(&error) {
+                    return Err(Failed);
+                }
+            }
         }
     }
+    *faults = faults.saturating_add(1);
     Err(Failed)
+}
+
+// One flush. A failure is counted, unless the flush was interrupted.
+#[tactic(auto, using(crate::proofs::StdEdgesLemmas::keeping))]
+fn flush_once<W: Write>(
+    output: &mut W,
+    unflushed: &mut usize,
+    faults: &mut u64,
+) -> Result<(), Error>
+    ensures kept { Keeps (W.contents output.old) (W.contents output.new) }
+    ensures done { OnOk result (unflushed.new ≡ 0) }
+    ensures held { OnErr result (unflushed.new ≡ unflushed.old) }
+    ensures ok { OnOk result (faults.new ≡ faults.old) }
+    ensures interrupted { IfErr result (λ e. error_kind e ≡ ErrorKind.Interrupted → faults.new ≡ faults.old) }
+    ensures failed { IfErr result (λ e. error_kind e ≢ ErrorKind.Interrupted → faults.new ≡ raised_count faults.old) }
+    ensures rose { IfErr result (λ e. error_kind e ≢ ErrorKind.Interrupted → Rose faults.old faults.new) }
+    ensures never_falls { faults.old ≤ faults.new }
+{
+    match output.flush() {
+        Ok(()) => {
+            *unflushed = 0;
+            Ok(())
+        }
+        Err(error) => {
+            if !is_interrupted(&error) {
+                *faults = faults.saturating_add(1);
+            }
+            Err(error)
+        }
+    }
 }
 
 // One flush, as often as it is interrupted.
 #[tactic(auto, using(crate::proofs::StdEdgesLemmas::keeping))]
-fn flush<W: Write>(output: &mut W) -> Result<(), Failed>
+fn flush<W: Write>(output: &mut W, unflushed: &mut usize, faults: &mut u64) -> Result<(), Failed>
     ensures kept { Keeps (W.contents output.old) (W.contents output.new) }
+    ensures done { OnOk result (unflushed.new ≡ 0) }
+    ensures held { OnErr result (unflushed.new ≡ unflushed.old) }
+    ensures cause { HasCause faults.old faults.new result }
+    ensures counted { OnErr result (faults.new ≡ raised_count faults.old) }
 {
     for _ in 0..u64::MAX {
-        match output.flush() {
+        match flush_once(output, unflushed, faults) {
             Ok(()) => return Ok(()),
-            Err(error) if is_interrupted(&error) => {}
-            Err(_) => return Err(Failed),
+            Err(error) => {
+                if !is_interrupted(&error) {
+                    return Err(Failed);
+                }
+            }
         }
     }
+    *faults = faults.saturating_add(1);
     Err(Failed)
 }
 

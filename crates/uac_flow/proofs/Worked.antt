@@ -6,7 +6,7 @@ use Rattle.uac_alt.specs.AltStreams.{StreamFields}
 use Rattle.uac_pcm.specs.Subslots.{cut_to, sample_of_subslot, subslot_of}
 use Rattle.uac_flow.specs.Flows.{kept_count}
 use Rattle.uac_flow.specs.FlowStreams.{InStream, OutStream, after_packet, after_putting, after_sending, after_taking, after_ticks, arrival_of, feedback_of, is_dry, is_due, is_full, next_taken, sent_frames, sent_packet, settled_out, started_in, started_out}
-use Rattle.uac_flow.specs.declared.arrival.Arrival.TheVariants as arrival
+use Rattle.uac_ring.specs.declared.arrival.Arrival.TheVariants as arrival
 
 -- mono at 48,000 Hz, in samples of two bytes: 6 frames in a microframe, at most 12 in a packet, a report every second microframe
 mono : ℕ → Bool → StreamFields

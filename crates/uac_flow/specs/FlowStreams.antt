@@ -7,8 +7,8 @@ use Rattle.uac_alt.specs.AltStreams.{StreamFields}
 use Rattle.uac_pcm.specs.Packets.{bytes_of_frames, frames_of_bytes}
 use Rattle.uac_rate.specs.Reports.{report_of}
 use Rattle.uac_ring.specs.Rings.{ring_frames}
-use Rattle.uac_flow.specs.declared.arrival.Arrival.{Arrival}
-use Rattle.uac_flow.specs.declared.arrival.Arrival.TheVariants as arrival
+use Rattle.uac_ring.specs.declared.arrival.Arrival.{Arrival}
+use Rattle.uac_ring.specs.declared.arrival.Arrival.TheVariants as arrival
 
 -- a running stream to the device
 pub record OutStream : Type 0 where

@@ -1,8 +1,6 @@
 //! A stream that a device runs: how packets, ticks and the ends of microframes change its ring and what is kept beside it.
 #![tactic(auto)]
 
-/// What becomes of a packet.
-mod arrival;
 /// Counts of microframes.
 mod counting;
 /// Frames between packets and rings.
@@ -12,6 +10,6 @@ mod inward;
 /// A running stream to the device.
 mod outward;
 
-pub use arrival::Arrival;
 pub use inward::InFlow;
 pub use outward::OutFlow;
+pub use uac_ring::Arrival;

@@ -9,14 +9,13 @@ ghost use Rattle.uac_flow.specs.FlowStreams as spec;
 ghost use Rattle.uac_flow.specs.FlowStreams.{OutStream, after_packet, after_taking, arrival_of, feedback_of, next_taken, out_level};
 ghost use Rattle.uac_flow.specs.FlowStreams.{settled_out, settled_when_due, started_out, zeros_due};
 
-use crate::arrival::Arrival;
 use crate::counting::{is_due, next_count, reports_now};
 use crate::frames::{put_frames, put_zeros};
 use uac_alt::Stream;
 use uac_pcm::laws::unpacked_frames_are_whole;
 use uac_pcm::{Frame, Packet};
 use uac_rate::report;
-use uac_ring::{RING_FRAMES, Ring};
+use uac_ring::{Arrival, RING_FRAMES, Ring};
 
 /// What the device keeps of a stream to it, beside its ring.
 #[derive(Clone, Copy, Debug, PartialEq, Eq)]

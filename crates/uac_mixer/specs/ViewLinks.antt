@@ -2,6 +2,7 @@
 use Rattle.std.specs.Prelude.{◌≡◌, ◌↔◌, ℕ, ◌<◌, ◌≤◌, List, [], ◌∷◌, Option, Some, None, IsSome}
 use Rattle.uac_request.specs.Requests.{AnswerFields}
 use Rattle.uac_request.specs.declared.setup.Setup.{Setup}
+use Rattle.uac_device.specs.DeviceWorld.{BegunFields, begun_by}
 use Rattle.uac_device.specs.DeviceKept.{DeviceFields, IsControlled}
 use Rattle.uac_mixer.specs.declared.element.Element.{Element}
 use Rattle.uac_mixer.specs.declared.link.When.{When}
@@ -12,8 +13,9 @@ use Rattle.uac_mixer.specs.ViewTransfers.{get_of}
 pub record LinkFields : Type 0 where
   -- the device at its end
   pub device : DeviceFields
-  -- the last answer that the device gave through this link, if any
+  -- the last answer that the device gave through this link, if any, and what that request began
   pub last : Option AnswerFields
+  pub began : Option BegunFields
   -- how many transfers broke so far
   pub breaks : ℕ
   -- the fault of the next transfer, where the link tells it: none, or when it breaks
@@ -23,11 +25,13 @@ pub record LinkFields : Type 0 where
 pub record IsUntouched (old new : LinkFields) : Type 0 where
   pub device : new.device ≡ old.device
   pub last : new.last ≡ old.last
+  pub began : new.began ≡ old.began
 
 -- the device acted and answered this
 pub record HasActed (p : Setup) (sent : List ℕ) (told : AnswerFields) (old new : LinkFields) : Type 0 where
   pub device : IsControlled p sent told old.device new.device
   pub last : new.last ≡ Some told
+  pub began : new.began ≡ begun_by old.device.function old.device.controls p told
 
 -- a transfer broke before the device acted, or after
 abbrev pub BreaksAs : When → Setup → List ℕ → LinkFields → LinkFields → Type 0

@@ -2,7 +2,7 @@
 ghost use Rattle.uac_store.specs.StoreControls.{IsStoreOf};
 
 use crate::answers::copy_of;
-use uac_device::Device;
+use uac_device::{Begun, Device};
 use uac_request::{Answer, Setup};
 use uac_topology::Function;
 
@@ -49,6 +49,7 @@ pub trait Link {
 pub struct DeviceLink<'a> {
     device: &'a mut Device,
     last: Option<Answer>,
+    began: Option<Begun>,
     fault: Option<When>,
     ghost stored: { IsStoreOf device.now.function.entities device.now.controls },
 }
@@ -57,7 +58,8 @@ impl<'a> DeviceLink<'a> {
     ghost use Rattle.std.specs.Prelude.{◌≡◌, None, Some};
     ghost use Rattle.std.specs.Option.{option_map};
     ghost use Rattle.uac_request.specs.Requests.{answer_fields};
-    ghost use Rattle.uac_device.specs.DeviceKept.{IsControlled};
+    ghost use Rattle.uac_device.specs.DeviceKept.{IsControlled, begun_fields};
+    ghost use Rattle.uac_device.specs.DeviceWorld.{begun_by};
 
     /// A link to a device. It tells `fault` and has no last answer.
     pub fn new(device: &'a mut Device, fault: Option<When>) -> DeviceLink<'a>
@@ -65,11 +67,13 @@ impl<'a> DeviceLink<'a> {
         ensures same_reference { result.device.ghost_name ≡ device.entry.ghost_name }
         ensures device { result.device.now ≡ device.old }
         ensures last { result.last ≡ None }
+        ensures began { result.began ≡ None }
         ensures fault { result.fault ≡ fault }
     {
         DeviceLink {
             device,
             last: None,
+            began: None,
             fault,
         }
     }
@@ -81,17 +85,27 @@ impl<'a> DeviceLink<'a> {
         self.last.as_ref()
     }
 
+    /// What the last request that reached the device through this link began.
+    pub fn began(&self) -> Option<Begun>
+        ensures { result ≡ self.now.began }
+    {
+        self.began
+    }
+
     // The device acts.
     #[inline(always)]
     fn act(&mut self, setup: &Setup, sent: &[u8]) -> Answer
         ensures same_reference { self.new.device.ghost_name ≡ self.old.device.ghost_name }
         ensures device { IsControlled setup.now sent.now (answer_fields result) self.old.device.now self.new.device.now }
         ensures last { option_map answer_fields self.new.last ≡ Some (answer_fields result) }
+        ensures began { option_map begun_fields self.new.began
+            ≡ begun_by self.old.device.now.function self.old.device.now.controls setup.now (answer_fields result) }
         ensures fault { self.new.fault ≡ self.old.fault }
     {
-        let answer = self.device.control(setup, sent);
-        self.last = Some(copy_of(&answer));
-        answer
+        let acted = self.device.act(setup, sent);
+        self.last = Some(copy_of(&acted.answer));
+        self.began = acted.began;
+        acted.answer
     }
 }
 
@@ -99,11 +113,13 @@ impl<'a> Link for DeviceLink<'a> {
     ghost use Rattle.std.specs.Prelude.{◌≡◌, Some, is_some, if◌then◌else◌};
     ghost use Rattle.std.specs.Option.{option_map};
     ghost use Rattle.uac_request.specs.Requests.{answer_fields};
+    ghost use Rattle.uac_device.specs.DeviceKept.{begun_fields};
 
     // The count of breaks is 0 while the one break of the link lies ahead.
     ghost state = { λ l. record {
       device = l.device.now;
       last = option_map answer_fields l.last;
+      began = option_map begun_fields l.began;
       breaks = if is_some l.fault then 0 else 1;
       fault = Some l.fault;
     } };

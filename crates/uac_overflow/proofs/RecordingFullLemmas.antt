@@ -9,8 +9,8 @@ use Rattle.std.proofs.lemmas.Map.Keys.{IsDistinct-head, IsDistinct-tail}
 use Rattle.uac_clock.specs.Ticks.{ticks_in}
 use Rattle.uac_topology.specs.Function.{FunctionFields}
 use Rattle.uac_flow.specs.FlowStreams.{InStream, OutStream, arrival_of, is_due, is_full}
-use Rattle.uac_flow.specs.declared.arrival.Arrival.{Arrival}
-use Rattle.uac_flow.specs.declared.arrival.Arrival.TheVariants as arrivals
+use Rattle.uac_ring.specs.declared.arrival.Arrival.{Arrival}
+use Rattle.uac_ring.specs.declared.arrival.Arrival.TheVariants as arrivals
 use Rattle.uac_host.specs.HostWorld.{Track}
 use Rattle.uac_device_streams.specs.InterfaceStreams.{either_due}
 use Rattle.uac_device.specs.DeviceWorld.{DeviceWorld, Domain, after_advance, arrival_in, is_due_in, is_on, next_ticks, after_receiving}

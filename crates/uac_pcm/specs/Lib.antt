@@ -4,3 +4,4 @@ pub mod Subslots
 pub mod Frames
 pub mod Packets
 pub mod Tones
+pub mod Counts

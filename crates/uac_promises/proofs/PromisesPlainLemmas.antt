@@ -6,7 +6,7 @@ use Rattle.std.proofs.lemmas.List.Elements.{All-append, All-cons, All-map, All-n
 use Rattle.uac_entities.specs.declared.stream.StreamInterface.{StreamInterface}
 use Rattle.uac_device.specs.DeviceWorld.{Domain}
 use Rattle.uac_transcript.specs.Transcript.{Said, says_level, says_meter, says_over, says_passed, says_renders, says_steady, says_under}
-use Rattle.uac_transcript.specs.declared.report.StreamCounts.{StreamCounts}
+use Rattle.uac_ring.specs.declared.counts.StreamCounts.{StreamCounts}
 use Rattle.uac_running.specs.RunningWorld.{RunningWorld}
 use Rattle.uac_running.specs.RunningWorld as world
 use Rattle.uac_running.specs.RunningLines.{report_lines}

@@ -23,7 +23,7 @@ use Rattle.uac_graph.specs.Meaning.{entity}
 use Rattle.uac_graph.specs.Needs.{is_end}
 use Rattle.uac_graph.proofs.FitnessLemmas.{sound_graph}
 use Rattle.uac_edges.specs.Writing.{Writes}
-use Rattle.uac_transcript.specs.declared.report.StreamCounts.{StreamCounts}
+use Rattle.uac_ring.specs.declared.counts.StreamCounts.{StreamCounts}
 use Rattle.uac_transcript.specs.Transcript.{Said, says_domain, says_meter, says_played, spelling_of}
 use Rattle.uac_streaming.specs.StreamingWorld as streams
 use Rattle.uac_topology_rules.proofs.ListFindLemmas.{position-below}

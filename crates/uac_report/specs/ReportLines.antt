@@ -5,7 +5,7 @@ use Rattle.uac_entities.specs.declared.stream.StreamInterface.{StreamInterface}
 use Rattle.uac_store.specs.Rates.{rate_of}
 use Rattle.uac_alt.specs.AltSettings.{setting_of}
 use Rattle.uac_units.specs.Hearing.{at_most_u64}
-use Rattle.uac_transcript.specs.declared.report.StreamCounts.{StreamCounts}
+use Rattle.uac_ring.specs.declared.counts.StreamCounts.{StreamCounts}
 use Rattle.uac_transcript.specs.Transcript.{Said, says_played, says_domain, says_out_stream, says_in_stream}
 use Rattle.uac_device.specs.DeviceWorld.{Domain, DeviceWorld, is_output_jack_of, level_of, target_of}
 

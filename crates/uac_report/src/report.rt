@@ -16,10 +16,11 @@ use crate::counts::TickCount;
 use uac_device::Device;
 use uac_edges::{Failed, Sink};
 use uac_entities::StreamInterface;
+use uac_ring::StreamCounts;
 use uac_streaming::Streaming;
 use uac_transcript::{
-    StreamCounts, write_domain, write_in_stream, write_meter, write_out_stream, write_passed,
-    write_renders, write_steady,
+    write_domain, write_in_stream, write_meter, write_out_stream, write_passed, write_renders,
+    write_steady,
 };
 use uac_units::{Meter, Meters};
 

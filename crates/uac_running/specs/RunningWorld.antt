@@ -14,7 +14,7 @@ use Rattle.uac_rate.specs.Steadiness.{SteadyHistory, nothing_given}
 use Rattle.uac_streaming.specs.StreamingWorld.{StreamingWorld, nothing_met}
 use Rattle.uac_mixer.specs.ViewWorld.{ViewWorld, known_view}
 use Rattle.uac_mixer.specs.declared.link.When.{When}
-use Rattle.uac_transcript.specs.declared.report.StreamCounts.{StreamCounts}
+use Rattle.uac_ring.specs.declared.counts.StreamCounts.{StreamCounts}
 use Rattle.uac_running.specs.declared.jacks.Jack.{Jack}
 
 -- the device, the host, the host's view of the device, and the bus, whose part all else is

@@ -1,9 +1,9 @@
 // Control transfers of a running device, and the elements of the host's view.
-ghost use Rattle.std.specs.Prelude.{◌≡◌, ◌&&◌, ◌<◌, ◌∷◌, [], List, length, slice_get, true, false, Some, None, IfOk};
+ghost use Rattle.std.specs.Prelude.{◌≡◌, ◌<◌, ◌∷◌, [], List, length, slice_get, true, false, Some, None, IfOk};
 ghost use Rattle.std.specs.Prelude.{IfSome};
-ghost use Rattle.std.specs.Option.{option_and_then, option_map, option_map_or};
+ghost use Rattle.std.specs.Option.{option_and_then};
 ghost use Rattle.uac_store.specs.StoreControls.{initial_controls};
-ghost use Rattle.uac_request.specs.Requests.{answer_fields, value_bytes, sets_interface, is_done_answer};
+ghost use Rattle.uac_request.specs.Requests.{answer_fields, value_bytes};
 ghost use Rattle.uac_units.specs.Hearing.{Reading};
 ghost use Rattle.uac_edges.specs.Faults.{HasCause};
 ghost use Rattle.uac_device.specs.DeviceWorld.{DeviceWorld, fresh};
@@ -25,7 +25,7 @@ use crate::running::Running;
 use std::alloc::Global;
 use uac_descriptor::NoMemory;
 use uac_device::laws::controls_are_stored;
-use uac_device::{Device, is_done, sets_interface, stream_asked};
+use uac_device::Device;
 use uac_edges::{Failed, Sink};
 use uac_mixer::{Broken, DeviceLink, Element, SetFault, View, ViewFault, When};
 use uac_request::{Answer, Setup};
@@ -83,17 +83,6 @@ pub(crate) fn fresh_viewed(alloc: Global, function: Function) -> Result<Viewed, 
     with_view(alloc, device)
 }
 
-/// Whether a device holds another setting of an interface after a transfer, of which it answered this last.
-fn holds_setting(setup: &Setup, last: Option<&Answer>) -> bool
-    ensures { result ≡ (sets_interface setup.now
-        && option_map_or is_done_answer (option_map (λ answer. answer_fields answer.now) last.entry) false) }
-{
-    match last {
-        Some(answer) => sets_interface(setup) && is_done(answer),
-        None => false,
-    }
-}
-
 /// When a transfer breaks.
 fn break_at(after: bool) -> When
     ensures { result ≡ spec.break_at after }
@@ -135,19 +124,13 @@ impl Running {
             → came_of result ≡ comes_back setup.now sent.now r }
     {
         controls_are_stored(&self.device);
-        let begun = stream_asked(
-            self.device.function(),
-            self.device.store(),
-            setup.index,
-            setup.value,
-        );
         let fault = self.breaks.take();
         let mut link = DeviceLink::new(&mut self.device, fault);
         let came = self.view.transfer(&mut link, setup, sent);
-        let holds = holds_setting(setup, link.last());
-        if holds {
+        let began = link.began();
+        if let Some(begun) = began {
             self.streaming
-                .follow(self.device.function(), setup.index, begun);
+                .follow(self.device.function(), begun.interface, begun.stream);
         }
         came
     }

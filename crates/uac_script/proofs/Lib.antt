@@ -5,3 +5,4 @@ pub mod LineUniqueLemmas
 pub mod SayingLemmas
 pub mod LineRangeLemmas
 pub mod Worked
+pub mod LossesLemmas

@@ -2,6 +2,7 @@
 -- What the program's theorem says: to be read and believed.
 pub mod Phrase
 pub mod Line
+pub mod Losses
 -- What the laws say besides.
 pub mod LineParsing
 pub mod Saying

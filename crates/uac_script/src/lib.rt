@@ -9,6 +9,8 @@ mod lent;
 mod line;
 /// The rows that end in a list.
 mod lists;
+/// What marks tell is lost.
+mod marks;
 /// A line with its long parts in itself.
 mod owned;
 /// A whole line, by its first word.
@@ -18,6 +20,7 @@ mod rows;
 
 pub use lent::{LentLine, LineRoom};
 pub use line::{Line, Mark, MarkKind, Name};
+pub use marks::{loses_in, loses_out, loses_report};
 pub use parsing::is_idle;
 pub use uac_edges::{
     Failed, MemorySink, MemorySource, Sink, Source, StdSink, StdSource, SteadySource, TextLine,

@@ -4,7 +4,6 @@ pub mod StreamingKeptLemmas
 pub mod StreamingKeptHostLemmas
 pub mod InOrderLemmas
 pub mod TellingLemmas
-pub mod StreamingWorldMarkLemmas
 pub mod StreamingWorldLineLemmas
 pub mod StreamingWorldLemmas
 pub mod StreamingWorldQuietLemmas

@@ -8,7 +8,7 @@ use Rattle.uac_host.specs.HostKept as hosts
 use Rattle.uac_host.specs.HostWorld.{HostWorld, fresh_host}
 use Rattle.uac_host.specs.HostCalls.{packet_of}
 use Rattle.uac_host.specs.declared.host_streams.HostStream.{HostStream}
-use Rattle.uac_transcript.specs.declared.report.StreamCounts.{StreamCounts}
+use Rattle.uac_ring.specs.declared.counts.StreamCounts.{StreamCounts}
 use Rattle.uac_streaming.specs.StreamingWorld.{StreamingWorld, comes_in, counted_at, given_at, goes_out, met_in, nothing_met, numbers, numbers_in, numbers_out, packet_to, stream_index, streaming_start}
 use Rattle.uac_streaming.specs.StreamingKept.{StreamingFields, StreamingStands}
 use Rattle.uac_streaming.proofs.StreamingWorldCountLemmas.{counts_changed, counts_kept}

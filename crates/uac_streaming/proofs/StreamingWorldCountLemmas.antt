@@ -10,7 +10,7 @@ use Rattle.uac_topology.specs.Function.{FunctionFields}
 use Rattle.uac_topology.specs.FunctionKept.{AreNumbered}
 use Rattle.uac_topology_rules.proofs.ListFindLemmas.{position_is, position_none}
 use Rattle.std.proofs.lemmas.Option.{slice_get-get_or}
-use Rattle.uac_transcript.specs.declared.report.StreamCounts.{StreamCounts}
+use Rattle.uac_ring.specs.declared.counts.StreamCounts.{StreamCounts}
 use Rattle.uac_streaming.specs.StreamingWorld.{counted_at, met_in, nothing_met, stream_index}
 
 some_same : {A : Type 0} (x y : A) → Some x ≡ Some y → x ≡ y

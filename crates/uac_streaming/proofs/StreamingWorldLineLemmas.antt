@@ -11,20 +11,20 @@ use Rattle.uac_pcm.proofs.PacketsLemmas.{length-first_chunks}
 use Rattle.std.specs.Simd.{first_chunks}
 use Rattle.uac_host.specs.HostWorld.{HostWorld, Pace}
 use Rattle.uac_host.specs.HostCalls.{heard_in}
-use Rattle.uac_flow.specs.declared.arrival.Arrival.{Arrival}
-use Rattle.uac_flow.specs.declared.arrival.Arrival.TheVariants as arrivals
+use Rattle.uac_ring.specs.declared.arrival.Arrival.{Arrival}
+use Rattle.uac_ring.specs.declared.arrival.Arrival.TheVariants as arrivals
 use Rattle.uac_device_streams.specs.InterfaceStreams.{bits_of}
 use Rattle.uac_transcript.specs.Transcript.{Said, says_out, says_over, spelling_of}
 use Rattle.uac_transcript.specs.Printing.{Prints, text_of}
 use Rattle.uac_transcript.proofs.PrintingLemmas.{Prints-after, Prints-line}
-use Rattle.uac_streaming.specs.StreamingWorld.{arrived_as, out_lines, over_lines}
+use Rattle.uac_streaming.specs.StreamingWorld.{out_lines, over_lines}
 
 -- a packet that was over
 pub over_told : {T E : Type 0} (old mid new : Option (List ℕ)) (r : Result T E) (detail interface frames : ℕ) (arrival : Arrival) → arrival ≡ arrivals.Over
-    → Appends old mid (text_of (if nat_le 2 detail then says_out interface frames (arrived_as arrival) ∷ [] else []))
+    → Appends old mid (text_of (if nat_le 2 detail then says_out interface frames arrival ∷ [] else []))
     → Writes mid new r (spelling_of (says_over interface)) → Prints old new r (out_lines detail interface frames arrival)
 over_told old mid new r detail interface frames arrival is before over =
-    Prints-after old mid new r (if nat_le 2 detail then says_out interface frames (arrived_as arrival) ∷ [] else []) (over_lines interface arrival) before
+    Prints-after old mid new r (if nat_le 2 detail then says_out interface frames arrival ∷ [] else []) (over_lines interface arrival) before
     (subst (λ (a : Arrival). Prints mid new r (over_lines interface a)) (sym is) (Prints-line mid new r (says_over interface) over))
 
 -- ---- frames that are heard

@@ -4,7 +4,7 @@ use Rattle.uac_rate.specs.Steadiness as steadiness
 use Rattle.uac_device.specs.DeviceKept as devices
 use Rattle.uac_host.specs.HostKept as hosts
 use Rattle.uac_host.specs.declared.host_streams.HostStream.{HostStream}
-use Rattle.uac_transcript.specs.declared.report.StreamCounts.{StreamCounts}
+use Rattle.uac_ring.specs.declared.counts.StreamCounts.{StreamCounts}
 use Rattle.uac_transcript.specs.Printing.{Prints}
 use Rattle.uac_streaming.specs.Telling.{Telling}
 use Rattle.uac_streaming.specs.StreamingWorld.{StreamingWorld, met_in, numbers, numbers_in, numbers_out}

@@ -1,28 +1,25 @@
 -- Streams between a host and a device: what packets, feedback reports and the ends of microframes make of both, and what is said of
 -- them. Profile: the order of events, and what is printed. The direction of an interface is that of its data endpoint (USB 2.0, 9.6.6);
 -- feedback is that of 5.12.4.2.
-use Rattle.std.specs.Prelude.{ℕ, ◌+◌, ◌==◌, ◌&&◌, not, nat_le, Bool, true, false, if◌then◌else◌, ℤ, pos, negsuc, List, [], ◌∷◌, ◌++◌, map}
+use Rattle.std.specs.Prelude.{ℕ, ◌+◌, ◌==◌, ◌&&◌, not, nat_le, Bool, true, false, if◌then◌else◌, ℤ, List, [], ◌∷◌, ◌++◌, map}
 use Rattle.std.specs.Prelude.{filter, Option, Some, None, is_some}
-use Rattle.std.specs.List.{list_any, range_with_len}
+use Rattle.std.specs.List.{range_with_len}
 use Rattle.std.specs.Option.{option_map_or}
 use Rattle.uac_topology.specs.Function.{FunctionFields, interface_in}
 pub use Rattle.uac_topology.specs.Function.{stream_index}
 use Rattle.uac_alt.specs.AltStreams.{StreamFields}
 use Rattle.uac_rate.specs.Steadiness.{SteadyHistory, nothing_given, with_report_given, with_restart_given}
 use Rattle.uac_flow.specs.FlowStreams.{is_dry, is_full}
-use Rattle.uac_flow.specs.declared.arrival.Arrival.{Arrival}
-use Rattle.uac_flow.specs.declared.arrival.Arrival.TheVariants as arrivals
-use Rattle.uac_units.specs.Hearing.{at_most_u64}
+use Rattle.uac_ring.specs.declared.arrival.Arrival.{Arrival}
+use Rattle.uac_ring.specs.declared.arrival.Arrival.TheVariants as arrivals
 use Rattle.uac_device.specs.DeviceWorld.{DeviceWorld, arrival_in, feedback_in, frames_in, fresh, is_due_in, is_on, level_of, packet_in}
 use Rattle.uac_device.specs.DeviceWorld.{after_receiving, after_sending_packet, after_settling, target_of}
 use Rattle.uac_host.specs.HostWorld.{HostWorld, fresh_host}
 use Rattle.uac_host.specs.HostCalls.{after_host_packet, heard_in, packet_of, size_of, with_report, with_stream}
 use Rattle.uac_script.specs.Phrase.{PhraseMark}
-use Rattle.uac_script.specs.declared.line.MarkKind.{MarkKind}
-use Rattle.uac_script.specs.declared.line.MarkKind.TheVariants as mark_kinds
-use Rattle.uac_transcript.specs.declared.packets.PrintedArrival as printed
-use Rattle.uac_transcript.specs.declared.packets.PrintedArrival.TheVariants as arrived
-use Rattle.uac_transcript.specs.declared.report.StreamCounts.{StreamCounts}
+use Rattle.uac_ring.specs.declared.counts.StreamCounts.{StreamCounts}
+pub use Rattle.uac_ring.specs.Meeting.{after_arrival, nothing_met, one_lost, one_missed, one_over, one_under}
+pub use Rattle.uac_script.specs.Losses.{is_at, loses_in, loses_out, loses_report, marks_in, marks_out, marks_report}
 use Rattle.uac_transcript.specs.Transcript.{Said, says_feedback, says_frame, says_in, says_level, says_out, says_over, says_under}
 use Rattle.uac_streaming.specs.Telling.{Telling, without_event, in_turn}
 
@@ -34,10 +31,6 @@ pub record StreamingWorld : Type 0 where
   pub met : ℕ → StreamCounts
   -- the deviations that were given, and by streaming interface, in block order, of each start the feedback reports
   pub history : SteadyHistory
-
--- streams that met nothing
-abbrev pub nothing_met : StreamCounts
-nothing_met = record { under = 0; over = 0; lost = 0; missed = 0 }
 
 -- just after the descriptor was accepted
 unfoldable pub streaming_start : FunctionFields → StreamingWorld
@@ -65,39 +58,6 @@ numbers_out function = filter (goes_out function) (numbers function)
 abbrev pub numbers_in : FunctionFields → List ℕ
 numbers_in function = filter (comes_in function) (numbers function)
 
--- ---- losses
-
--- a mark names this interface
-abbrev pub is_at : ℤ → ℕ → Bool
-is_at (pos n) interface = n == interface
-is_at (negsuc n) interface = false
-
--- marks are of packets to the device, of packets from it, or of reports
-abbrev pub marks_out : MarkKind → Bool
-marks_out mark_kinds.Out = true
-marks_out mark_kinds.In = false
-marks_out mark_kinds.Feedback = false
-
-abbrev pub marks_in : MarkKind → Bool
-marks_in mark_kinds.Out = false
-marks_in mark_kinds.In = true
-marks_in mark_kinds.Feedback = false
-
-abbrev pub marks_report : MarkKind → Bool
-marks_report mark_kinds.Out = false
-marks_report mark_kinds.In = false
-marks_report mark_kinds.Feedback = true
-
--- the packet to the device of an interface is lost, that from it, or its report
-abbrev pub loses_out : List PhraseMark → ℕ → Bool
-loses_out marks interface = list_any (λ l. marks_out l.kind && is_at l.interface interface) marks
-
-abbrev pub loses_in : List PhraseMark → ℕ → Bool
-loses_in marks interface = list_any (λ l. marks_in l.kind && is_at l.interface interface) marks
-
-abbrev pub loses_report : List PhraseMark → ℕ → Bool
-loses_report marks interface = list_any (λ l. marks_report l.kind && is_at l.interface interface) marks
-
 -- ---- counts
 
 -- the counts of one interface change
@@ -108,34 +68,7 @@ counted_at interface change met k = if k == interface then change (met k) else m
 abbrev pub met_in : (ℕ → StreamCounts) → FunctionFields → List StreamCounts
 met_in met function = map (λ s. met s.number) function.streams
 
--- a packet was lost
-abbrev pub one_lost : StreamCounts → StreamCounts
-one_lost c = record c { lost = at_most_u64 (c.lost + 1) }
-
--- a ring had no room for a packet, or for a frame
-abbrev pub one_over : StreamCounts → StreamCounts
-one_over c = record c { over = at_most_u64 (c.over + 1) }
-
--- a primed ring was found empty
-abbrev pub one_under : StreamCounts → StreamCounts
-one_under c = record c { under = at_most_u64 (c.under + 1) }
-
--- a report was lost
-abbrev pub one_missed : StreamCounts → StreamCounts
-one_missed c = record c { missed = at_most_u64 (c.missed + 1) }
-
 -- ---- packets to the device
-
-abbrev pub after_arrival : Arrival → StreamCounts → StreamCounts
-after_arrival arrivals.Taken c = c
-after_arrival arrivals.Lost c = one_lost c
-after_arrival arrivals.Over c = one_over c
-
--- how a packet arrived, as its line says it
-abbrev pub arrived_as : Arrival → printed.PrintedArrival
-arrived_as arrivals.Taken = arrived.Ok
-arrived_as arrivals.Lost = arrived.Lost
-arrived_as arrivals.Over = arrived.Over
 
 -- a packet that was over is said at any detail
 abbrev pub over_lines : ℕ → Arrival → List Said
@@ -146,7 +79,7 @@ over_lines interface arrivals.Over = says_over interface ∷ []
 -- from detail 2 on each packet is said
 abbrev pub out_lines : ℕ → ℕ → ℕ → Arrival → List Said
 out_lines detail interface frames arrival =
-    (if nat_le 2 detail then says_out interface frames (arrived_as arrival) ∷ [] else []) ++ over_lines interface arrival
+    (if nat_le 2 detail then says_out interface frames arrival ∷ [] else []) ++ over_lines interface arrival
 
 -- the packet that comes to the device; none where it is lost
 abbrev pub packet_to : Bool → ℕ → StreamingWorld → Option (List ℕ)

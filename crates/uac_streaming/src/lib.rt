@@ -2,10 +2,6 @@
 //! as it is printed.
 #![tactic(auto)]
 
-/// Counts of what streams met.
-mod counts;
-/// Losses that marks tell.
-mod marks;
 /// Lines of packets, ticks and reports.
 mod printing;
 /// What the host streams with, and its events.

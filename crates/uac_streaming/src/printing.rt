@@ -17,9 +17,7 @@ use uac_entities::StreamInterface;
 use uac_flow::Arrival;
 use uac_host::Host;
 use uac_pcm::{Frame, Packet};
-use uac_transcript::{
-    PrintedArrival, write_feedback, write_frame, write_in, write_out, write_over, write_under,
-};
+use uac_transcript::{write_feedback, write_frame, write_in, write_out, write_over, write_under};
 
 /// Prints a packet to the device: from detail 2 on how it arrived, and at any detail that it was over.
 #[tactic(auto, using(uac_transcript::proofs::PrintingLemmas::stops))]
@@ -50,24 +48,13 @@ fn write_arrival<K: Sink>(
     arrival: Arrival,
 ) -> Result<(), Failed>
     ensures printed { Prints (K.written sink.old) (K.written sink.new) result
-        (if nat_le 2 detail then says_out interface frames (spec.arrived_as arrival) ∷ [] else []) }
+        (if nat_le 2 detail then says_out interface frames arrival ∷ [] else []) }
     ensures cause { HasCause (K.faults sink.old) (K.faults sink.new) result }
 {
     if detail < 2 {
         return Ok(());
     }
-    write_out(sink, interface, frames, printed_arrival(arrival))
-}
-
-/// How a packet arrived, as its line says it.
-fn printed_arrival(arrival: Arrival) -> PrintedArrival
-    ensures { result ≡ spec.arrived_as arrival }
-{
-    match arrival {
-        Arrival::Taken => PrintedArrival::Ok,
-        Arrival::Lost => PrintedArrival::Lost,
-        Arrival::Over => PrintedArrival::Over,
-    }
+    write_out(sink, interface, frames, arrival)
 }
 
 /// A packet from the device: its interface, how many frames it has, and whether it was lost.

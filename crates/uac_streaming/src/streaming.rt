@@ -8,13 +8,12 @@ ghost use Rattle.uac_device.specs.DeviceKept as devices;
 ghost use Rattle.uac_device.specs.DeviceWorld.{DeviceWorld, arrival_in, frames_in, fresh, met_of, packet_in, after_receiving};
 ghost use Rattle.uac_topology.specs.Function.{interface_in};
 ghost use Rattle.uac_host.specs.HostCalls.{AreWhole, IsStreamOf, size_of, with_report, with_samples, with_track_tone};
-ghost use Rattle.uac_transcript.specs.declared.report.StreamCounts as counted;
+ghost use Rattle.uac_ring.specs.declared.counts.StreamCounts as counted;
 ghost use Rattle.uac_streaming.specs.StreamingWorld.{StreamingWorld, after_following, found_counts, packet_fetched, packet_sent, packet_to};
 ghost use Rattle.uac_streaming.specs.StreamingWorld.{report_made, streaming_start};
 ghost use Rattle.uac_streaming.specs.StreamingWorld as spec;
 ghost use Rattle.uac_streaming.specs.StreamingKept.{StreamingStands};
 
-use crate::counts::{after_arrival, nothing_met, one_lost, one_missed, one_over, one_under};
 use crate::ways::{inward, outward};
 use std::alloc::Global;
 use std::marker::Model;
@@ -25,9 +24,11 @@ use uac_flow::Arrival;
 use uac_host::Host;
 use uac_pcm::{Frame, Packet, Tone};
 use uac_rate::Steady;
+use uac_ring::{
+    StreamCounts, after_arrival, nothing_met, one_lost, one_missed, one_over, one_under,
+};
 use uac_topology::Function;
 use uac_topology::laws::{functions_are_sound, interfaces_are_numbered, sound_functions_are_small};
-use uac_transcript::StreamCounts;
 
 /// A host's side of the streams of a device, and what these met.
 #[derive(Drop)]

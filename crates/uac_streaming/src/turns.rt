@@ -10,14 +10,13 @@ ghost use Rattle.uac_streaming.specs.StreamingWorld.{inward_turn, out_packets, o
 ghost use Rattle.uac_streaming.specs.StreamingWorld as spec;
 ghost use Rattle.uac_streaming.specs.StreamingKept.{StreamingStands, StreamingTells};
 
-use crate::marks::{loses_in, loses_out, loses_report};
 use crate::printing::{Fetched, FoundRing, write_fetched, write_report, write_rings, write_sent};
 use crate::streaming::Streaming;
 use crate::ways::goes_out;
 use uac_device::{Device, Ticked};
 use uac_edges::{Failed, Sink};
 use uac_entities::StreamInterface;
-use uac_script::Mark;
+use uac_script::{Mark, loses_in, loses_out, loses_report};
 use uac_transcript::write_level;
 
 impl Streaming {

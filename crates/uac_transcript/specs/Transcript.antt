@@ -6,9 +6,9 @@ use Rattle.uac_edges.specs.Numerals.{numeral}
 use Rattle.uac_units.specs.Hearing.{Reading}
 use Rattle.uac_units.specs.declared.meter.MeterKind.{MeterKind}
 use Rattle.uac_units.specs.declared.meter.MeterKind.TheVariants.{Peak, Clipped, Sum}
-use Rattle.uac_transcript.specs.declared.packets.PrintedArrival.{PrintedArrival}
-use Rattle.uac_transcript.specs.declared.packets.PrintedArrival.TheVariants as arrivals
-use Rattle.uac_transcript.specs.declared.report.StreamCounts.{StreamCounts}
+use Rattle.uac_ring.specs.declared.arrival.Arrival.{Arrival}
+use Rattle.uac_ring.specs.declared.arrival.Arrival.TheVariants as arrivals
+use Rattle.uac_ring.specs.declared.counts.StreamCounts.{StreamCounts}
 
 -- what came of a control transfer
 pub data TransferOutcome : Type 0 where
@@ -35,7 +35,7 @@ pub data Said : Type 0 where
   -- the number of a microframe, from 1
   says_time : ℕ → Said
   -- the interface, the frames of its packet to the device, and how it arrived
-  says_out : ℕ → ℕ → PrintedArrival → Said
+  says_out : ℕ → ℕ → Arrival → Said
   -- the interface, the frames of its packet from the device, and whether it was lost
   says_in : ℕ → ℕ → Bool → Said
   -- the interface, and a frame that came from it
@@ -90,8 +90,8 @@ abbrev pub lost_or_ok : Bool → List ℕ
 lost_or_ok true = codes "lost"
 lost_or_ok false = codes "ok"
 
-abbrev pub arrival_name : PrintedArrival → List ℕ
-arrival_name arrivals.Ok = codes "ok"
+abbrev pub arrival_name : Arrival → List ℕ
+arrival_name arrivals.Taken = codes "ok"
 arrival_name arrivals.Lost = codes "lost"
 arrival_name arrivals.Over = codes "over"
 

@@ -19,12 +19,10 @@ mod views;
 mod pieces;
 
 pub use frames::{write_frame, write_played};
-pub use packets::{
-    PrintedArrival, write_feedback, write_in, write_level, write_out, write_over, write_under,
-};
+pub use packets::{write_feedback, write_in, write_level, write_out, write_over, write_under};
 pub use report::{
-    StreamCounts, write_domain, write_in_stream, write_meter, write_out_stream, write_passed,
-    write_renders, write_steady,
+    write_domain, write_in_stream, write_meter, write_out_stream, write_passed, write_renders,
+    write_steady,
 };
 pub use starts::{write_ready, write_time};
 pub use transfers::{write_broken, write_done, write_given, write_stalled};

@@ -7,28 +7,18 @@ ghost use Rattle.uac_transcript.specs.Transcript.{spelling_of};
 
 use crate::pieces::{push_lost_or_ok, push_number_or_dash};
 use uac_edges::{Failed, Sink, TextLine, give_all};
-
-/// How a packet to the device arrived.
-#[derive(Clone, Copy, Debug, PartialEq, Eq)]
-pub enum PrintedArrival {
-    /// The packet's frames are in the ring.
-    Ok,
-    /// The packet was lost on the way.
-    Lost,
-    /// The ring had no room for it.
-    Over,
-}
+use uac_ring::Arrival;
 
 // Appends how a packet to the device arrived.
-fn push_arrival<const N: usize>(text: &mut TextLine<N>, arrival: PrintedArrival)
+fn push_arrival<const N: usize>(text: &mut TextLine<N>, arrival: Arrival)
     requires { length text.old + 4 ≤ N }
     ensures text { text.new ≡ text.old ++ arrival_name arrival }
     ensures len { length text.new ≤ length text.old + 4 }
 {
     match arrival {
-        PrintedArrival::Ok => text.push(b"ok"),
-        PrintedArrival::Lost => text.push(b"lost"),
-        PrintedArrival::Over => text.push(b"over"),
+        Arrival::Taken => text.push(b"ok"),
+        Arrival::Lost => text.push(b"lost"),
+        Arrival::Over => text.push(b"over"),
     }
 }
 
@@ -37,7 +27,7 @@ pub fn write_out<K: Sink>(
     sink: &mut K,
     interface: u8,
     frames: u32,
-    arrival: PrintedArrival,
+    arrival: Arrival,
 ) -> Result<(), Failed>
     ensures written { Writes (K.written sink.old) (K.written sink.new) result (spelling_of (says_out interface frames arrival)) }
     ensures cause { HasCause (K.faults sink.old) (K.faults sink.new) result }
@@ -48,7 +38,7 @@ pub fn write_out<K: Sink>(
 }
 
 #[tactic(auto, unfolding(crate::specs::Transcript::spelling_of))]
-fn push_out(text: &mut TextLine<64>, interface: u8, frames: u32, arrival: PrintedArrival)
+fn push_out(text: &mut TextLine<64>, interface: u8, frames: u32, arrival: Arrival)
     requires { text.old ≡ [] }
     ensures { text.new ≡ spelling_of (says_out interface frames arrival) }
 {

@@ -7,17 +7,8 @@ ghost use Rattle.uac_transcript.specs.Transcript.{says_renders, says_steady, spe
 
 use crate::pieces::{push_number_or_dash, yes_or_no};
 use uac_edges::{Failed, Sink, TextLine, give_all};
+use uac_ring::StreamCounts;
 use uac_units::MeterKind;
-
-/// What the streams of an interface met since the start: rings found empty and full, packets lost, reports missed. Each count
-/// stands still at 18446744073709551615.
-#[derive(Clone, Copy, Debug, PartialEq, Eq)]
-pub struct StreamCounts {
-    pub under: u64,
-    pub over: u64,
-    pub lost: u64,
-    pub missed: u64,
-}
 
 /// Prints the microframes since the start.
 pub fn write_passed<K: Sink>(sink: &mut K, time: u64) -> Result<(), Failed>

@@ -1,10 +1,10 @@
 // Each line as it is printed.
 use crate::{
-    PrintedArrival, StreamCounts, write_broken, write_domain, write_done, write_feedback,
-    write_frame, write_given, write_in, write_in_stream, write_level, write_meter, write_out,
-    write_out_stream, write_over, write_passed, write_played, write_ready, write_renders,
-    write_set, write_set_stalled, write_stalled, write_steady, write_time, write_under,
-    write_unknown, write_value, write_view_broken,
+    Arrival, StreamCounts, write_broken, write_domain, write_done, write_feedback, write_frame,
+    write_given, write_in, write_in_stream, write_level, write_meter, write_out, write_out_stream,
+    write_over, write_passed, write_played, write_ready, write_renders, write_set,
+    write_set_stalled, write_stalled, write_steady, write_time, write_under, write_unknown,
+    write_value, write_view_broken,
 };
 use arrayvec::ArrayVec;
 use std::test::Fail;
@@ -62,9 +62,9 @@ fn write_lines(sink: &mut MemorySink) -> Result<(), Failed> {
     };
     write_ready(sink, 7, 2, 1)?;
     write_time(sink, 18446744073709551615)?;
-    write_out(sink, 1, 6, PrintedArrival::Ok)?;
-    write_out(sink, 1, 7, PrintedArrival::Lost)?;
-    write_out(sink, 1, 5, PrintedArrival::Over)?;
+    write_out(sink, 1, 6, Arrival::Taken)?;
+    write_out(sink, 1, 7, Arrival::Lost)?;
+    write_out(sink, 1, 5, Arrival::Over)?;
     write_in(sink, 2, 6, false)?;
     write_in(sink, 2, 6, true)?;
     write_frame(sink, 2, &mono)?;

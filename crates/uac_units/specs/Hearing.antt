@@ -4,15 +4,12 @@ use Rattle.std.specs.List.{fold, sum_by}
 use Rattle.std.specs.Ordering.{int_eq}
 use Rattle.uac_units.specs.declared.meter.MeterKind.{MeterKind}
 use Rattle.uac_units.specs.declared.meter.MeterKind.TheVariants.{Peak, Clipped, Sum}
+pub use Rattle.uac_pcm.specs.Counts.{at_most_u64}
 
 -- what a meter shows: its kind and its value
 pub record Reading : Type 0 where
   pub kind : MeterKind
   pub value : ℕ
-
--- the value, or the greatest number of 64 bits where it would pass that
-abbrev pub at_most_u64 : ℕ → ℕ
-at_most_u64 value = min value (2 ^ 64 - 1)
 
 -- the greatest absolute sample of a frame
 abbrev pub peak_of : List ℤ → ℕ

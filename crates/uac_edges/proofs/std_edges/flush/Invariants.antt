@@ -1,6 +1,11 @@
+use Rattle.std.proofs.Common.{◌≡◌}
 use Rattle.std.specs.Io.KnownBytes.{Keeps}
 use Rattle.uac_edges.proofs.std_edges.flush.Given as goal
 
--- An interrupted call leaves the bytes as they were.
+-- An interrupted call leaves the bytes as they were, and is no fault.
 abbrev pub invariant-loop : goal.invariant-loop
-invariant-loop g l = Keeps (g.W.Write.contents l.fn.output) (g.W.Write.contents l.output)
+invariant-loop g l = record {
+  kept : Keeps (g.W.Write.contents l.fn.output) (g.W.Write.contents l.output);
+  held : l.unflushed ≡ l.fn.unflushed;
+  faultless : l.faults ≡ l.fn.faults;
+}

@@ -2,7 +2,7 @@ use Rattle.std.proofs.Common.{◌≡◌, ℕ, map, take}
 use Rattle.std.specs.Io.KnownBytes.{Appends}
 use Rattle.uac_device.specs.DeviceKept.{DeviceStands}
 use Rattle.uac_device.specs.DeviceWorld.{DeviceWorld}
-use Rattle.uac_transcript.specs.declared.report.StreamCounts.{StreamCounts}
+use Rattle.uac_ring.specs.declared.counts.StreamCounts.{StreamCounts}
 use Rattle.uac_transcript.specs.Printing.{text_of}
 use Rattle.uac_streaming.specs.StreamingWorld.{met_in}
 use Rattle.uac_report.specs.ReportLines.{stream_line}

@@ -1,5 +1,5 @@
 use Rattle.std.proofs.Common.{◌≡◌, ◌∙◌, ap, sym, arith, ℕ, ◌%◌, ◌==◌, if◌then◌else◌}
-use Rattle.uac_transcript.specs.declared.report.StreamCounts.{StreamCounts}
+use Rattle.uac_ring.specs.declared.counts.StreamCounts.{StreamCounts}
 use Rattle.uac_streaming.specs.StreamingWorld.{nothing_met, one_over}
 use Rattle.uac_streaming.proofs.StreamingWorldFoundLemmas.{found_all, found_in, found_more, found_of}
 use Rattle.uac_streaming.proofs.streaming.count_some.Goals as goal

@@ -1,6 +1,6 @@
 use Rattle.std.proofs.Common.{sym, ap}
-use Rattle.uac_flow.specs.declared.arrival.Arrival.{Arrival}
-use Rattle.uac_transcript.specs.declared.report.StreamCounts.{StreamCounts}
+use Rattle.uac_ring.specs.declared.arrival.Arrival.{Arrival}
+use Rattle.uac_ring.specs.declared.counts.StreamCounts.{StreamCounts}
 use Rattle.uac_streaming.specs.StreamingWorld.{after_arrival}
 use Rattle.uac_streaming.proofs.StreamingKeptLemmas.{met_still, set_so}
 use Rattle.uac_streaming.proofs.streaming.Streaming.count_arrival.Goals as goal

@@ -1,5 +1,5 @@
 use Rattle.std.proofs.Common.{sym, ap, Bool, if◌then◌else◌}
-use Rattle.uac_transcript.specs.declared.report.StreamCounts.{StreamCounts}
+use Rattle.uac_ring.specs.declared.counts.StreamCounts.{StreamCounts}
 use Rattle.uac_streaming.specs.StreamingWorld.{one_missed}
 use Rattle.uac_streaming.proofs.StreamingKeptLemmas.{met_still, set_so}
 use Rattle.uac_streaming.proofs.streaming.Streaming.count_missed.Goals as goal

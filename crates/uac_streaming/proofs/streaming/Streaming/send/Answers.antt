@@ -1,5 +1,5 @@
 use Rattle.std.proofs.Common.{◌≡◌, ◌∙◌, refl, sym, subst, ap, Option, List, ℕ}
-use Rattle.uac_flow.specs.declared.arrival.Arrival.{Arrival}
+use Rattle.uac_ring.specs.declared.arrival.Arrival.{Arrival}
 use Rattle.uac_device.specs.DeviceKept as devices
 use Rattle.uac_device.specs.DeviceWorld.{arrival_in, after_receiving}
 use Rattle.uac_host.specs.HostCalls.{after_host_packet}

@@ -1,12 +1,21 @@
 // Counts of what streams met. Each stands still at the greatest number of 64 bits.
 ghost use Rattle.std.specs.Prelude.{◌≡◌, if◌then◌else◌};
-ghost use Rattle.uac_streaming.specs.StreamingWorld as spec;
+ghost use Rattle.uac_ring.specs.Meeting as spec;
 
-use uac_flow::Arrival;
-use uac_transcript::StreamCounts;
+use crate::arrival::Arrival;
+
+/// What the streams of an interface met since the start: rings found empty and full, packets lost, reports missed. Each count
+/// stands still at 18446744073709551615.
+#[derive(Clone, Copy, Debug, PartialEq, Eq)]
+pub struct StreamCounts {
+    pub under: u64,
+    pub over: u64,
+    pub lost: u64,
+    pub missed: u64,
+}
 
 /// Streams that met nothing.
-pub(crate) fn nothing_met() -> StreamCounts
+pub fn nothing_met() -> StreamCounts
     ensures { result ≡ spec.nothing_met }
 {
     StreamCounts {
@@ -18,7 +27,7 @@ pub(crate) fn nothing_met() -> StreamCounts
 }
 
 /// A packet arrived so.
-pub(crate) fn after_arrival(arrival: Arrival, counts: StreamCounts) -> StreamCounts
+pub fn after_arrival(arrival: Arrival, counts: StreamCounts) -> StreamCounts
     ensures { result ≡ spec.after_arrival arrival counts }
 {
     match arrival {
@@ -29,7 +38,7 @@ pub(crate) fn after_arrival(arrival: Arrival, counts: StreamCounts) -> StreamCou
 }
 
 /// A packet was lost, or wasn't.
-pub(crate) fn one_lost(lost: bool, counts: StreamCounts) -> StreamCounts
+pub fn one_lost(lost: bool, counts: StreamCounts) -> StreamCounts
     ensures { result ≡ (if lost then spec.one_lost counts else counts) }
 {
     if lost {
@@ -43,7 +52,7 @@ pub(crate) fn one_lost(lost: bool, counts: StreamCounts) -> StreamCounts
 }
 
 /// A ring had no room, or had.
-pub(crate) fn one_over(over: bool, counts: StreamCounts) -> StreamCounts
+pub fn one_over(over: bool, counts: StreamCounts) -> StreamCounts
     ensures { result ≡ (if over then spec.one_over counts else counts) }
 {
     if over {
@@ -57,7 +66,7 @@ pub(crate) fn one_over(over: bool, counts: StreamCounts) -> StreamCounts
 }
 
 /// A primed ring was found empty, or wasn't.
-pub(crate) fn one_under(under: bool, counts: StreamCounts) -> StreamCounts
+pub fn one_under(under: bool, counts: StreamCounts) -> StreamCounts
     ensures { result ≡ (if under then spec.one_under counts else counts) }
 {
     if under {
@@ -71,7 +80,7 @@ pub(crate) fn one_under(under: bool, counts: StreamCounts) -> StreamCounts
 }
 
 /// A report was lost, or wasn't.
-pub(crate) fn one_missed(missed: bool, counts: StreamCounts) -> StreamCounts
+pub fn one_missed(missed: bool, counts: StreamCounts) -> StreamCounts
     ensures { result ≡ (if missed then spec.one_missed counts else counts) }
 {
     if missed {

@@ -7,8 +7,8 @@ use Rattle.uac_device.specs.DeviceKept.{DeviceFields, IsControlled}
 use Rattle.uac_device.specs.contracts.device.Device.{the_view}
 use Rattle.uac_device.proofs.DeviceKeptControlLemmas.{begun_fits, control_else, control_then}
 use Rattle.uac_device.proofs.FollowingLemmas.{follows}
-use Rattle.uac_device.proofs.device.Device.control.Goals as goal
-use Rattle.uac_device.proofs.device.Device.control.Goals.{else-sets_interface-via-then-sets_interface+else-is_done, else-sets_interface-via-else-sets_interface}
+use Rattle.uac_device.proofs.device.Device.act.Goals as goal
+use Rattle.uac_device.proofs.device.Device.act.Goals.{else-sets_interface-via-then-sets_interface+else-is_done, else-sets_interface-via-else-sets_interface}
 
 pub restart-requires : goal.restart-requires
 restart-requires c = record {

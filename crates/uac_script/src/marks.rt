@@ -1,12 +1,12 @@
 // Which packets and reports are lost.
 ghost use Rattle.std.specs.Prelude.{◌≡◌, map};
 ghost use Rattle.uac_script.specs.Line.{phrase_mark};
-ghost use Rattle.uac_streaming.specs.StreamingWorld as spec;
+ghost use Rattle.uac_script.specs.Losses as spec;
 
-use uac_script::{Mark, MarkKind};
+use crate::line::{Mark, MarkKind};
 
 /// Whether the packet to the device of an interface is lost.
-pub(crate) fn loses_out(marks: &[Mark], interface: u8) -> bool
+pub fn loses_out(marks: &[Mark], interface: u8) -> bool
     ensures { result ≡ spec.loses_out (map phrase_mark marks.now) interface }
 {
     marks
@@ -15,7 +15,7 @@ pub(crate) fn loses_out(marks: &[Mark], interface: u8) -> bool
 }
 
 /// Whether the packet from the device of an interface is lost.
-pub(crate) fn loses_in(marks: &[Mark], interface: u8) -> bool
+pub fn loses_in(marks: &[Mark], interface: u8) -> bool
     ensures { result ≡ spec.loses_in (map phrase_mark marks.now) interface }
 {
     marks
@@ -24,7 +24,7 @@ pub(crate) fn loses_in(marks: &[Mark], interface: u8) -> bool
 }
 
 /// Whether the report of an interface is lost.
-pub(crate) fn loses_report(marks: &[Mark], interface: u8) -> bool
+pub fn loses_report(marks: &[Mark], interface: u8) -> bool
     ensures { result ≡ spec.loses_report (map phrase_mark marks.now) interface }
 {
     marks
