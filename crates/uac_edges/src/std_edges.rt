@@ -196,6 +196,3 @@ fn flush<W: Write>(output: &mut W) -> Result<(), Failed>
     }
     Err(Failed)
 }
-
-#[cfg(test)]
-mod tests;

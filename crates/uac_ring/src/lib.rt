@@ -3,7 +3,5 @@
 
 /// The ring and its calls.
 mod ring;
-#[cfg(test)]
-mod tests;
 
 pub use ring::{Full, RING_FRAMES, Ring};
