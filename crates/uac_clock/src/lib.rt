@@ -3,8 +3,6 @@
 
 pub mod laws;
 mod rates;
-#[cfg(test)]
-mod tests;
 mod ticks;
 mod values;
 

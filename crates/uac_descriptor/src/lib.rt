@@ -37,6 +37,3 @@ pub use endpoint_bits::EndpointBits;
 pub use lists::{ByteList, NoMemory, WordList};
 pub use standard::{Association, Configuration, Endpoint, Foreign, Interface};
 pub use streaming::{ClassEndpoint, Extra, General, TypeOne};
-
-#[cfg(test)]
-mod tests;

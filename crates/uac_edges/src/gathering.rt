@@ -112,6 +112,3 @@ fn remove_front(bytes: &mut ArrayVec<u8, 4096>, count: usize)
     bytes.as_mut_slice().rotate_left(count);
     bytes.truncate(rest);
 }
-
-#[cfg(test)]
-mod tests;

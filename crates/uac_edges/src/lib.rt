@@ -22,6 +22,3 @@ pub use sinks::MemorySink;
 pub use sources::{MemorySource, SteadySource};
 pub use std_edges::{StdSink, StdSource};
 pub use text::TextLine;
-
-#[cfg(test)]
-mod tests;

@@ -281,6 +281,3 @@ fn flush<W: Write>(output: &mut W, unflushed: &mut usize, faults: &mut u64) -> R
     *faults = faults.saturating_add(1);
     Err(Failed)
 }
-
-#[cfg(test)]
-mod tests;

@@ -18,6 +18,3 @@ mod source;
 
 pub use generator::Gen;
 pub use source::GenSource;
-
-#[cfg(test)]
-mod tests;

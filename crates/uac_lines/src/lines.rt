@@ -203,6 +203,3 @@ impl Lines {
         why
     }
 }
-
-#[cfg(test)]
-mod tests;

@@ -11,9 +11,6 @@ pub use blanks::{resize, silence};
 pub use formats::Format;
 pub use tones::Tone;
 
-#[cfg(test)]
-mod tests;
-
 use arrayvec::ArrayVec;
 
 /// One sample for each channel, of full scale: signed numbers of 32 bits.

@@ -5,8 +5,6 @@ pub mod laws;
 mod pace;
 mod reports;
 mod steadiness;
-#[cfg(test)]
-mod tests;
 
 pub use pace::Pacer;
 pub use reports::report;

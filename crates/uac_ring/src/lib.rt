@@ -7,8 +7,6 @@ mod arrival;
 mod counts;
 /// The ring and its calls.
 mod ring;
-#[cfg(test)]
-mod tests;
 
 pub use arrival::Arrival;
 pub use counts::{

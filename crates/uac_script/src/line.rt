@@ -103,6 +103,3 @@ impl Line {
         read(text)
     }
 }
-
-#[cfg(test)]
-mod tests;

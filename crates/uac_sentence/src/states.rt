@@ -76,6 +76,3 @@ impl State {
         use_number(&mut self.used, block);
     }
 }
-
-#[cfg(test)]
-mod tests;

@@ -3,7 +3,5 @@
 
 pub mod laws;
 mod settling;
-#[cfg(test)]
-mod tests;
 
 pub use settling::settle_bound;

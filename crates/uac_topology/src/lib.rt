@@ -15,6 +15,3 @@ pub use function::Function;
 pub use soundness::{CheckStop, check};
 pub use uac_entities::{Cluster, Entity, EntityKind, Setting, SettingList, StreamInterface};
 pub use uac_topology_rules::TopologyFault;
-
-#[cfg(test)]
-mod tests;

@@ -9,8 +9,6 @@ mod packets;
 mod report;
 /// The lines of the descriptor's end and of a microframe's number.
 mod starts;
-#[cfg(test)]
-mod tests;
 /// The lines of control transfers.
 mod transfers;
 /// The lines that name an element of the host's view.

@@ -24,6 +24,3 @@ pub use plain::{PlainEffect, PlainFeature, PlainMixer, PlainSelector};
 pub use rack::Rack;
 pub use steps::Steps;
 pub use unit::Unit;
-
-#[cfg(test)]
-mod tests;

@@ -4,8 +4,6 @@
 mod commands;
 pub mod laws;
 mod parsing;
-#[cfg(test)]
-mod tests;
 
 pub use commands::{Command, Invocation, RackChoice, WordsFault};
 pub use parsing::read;

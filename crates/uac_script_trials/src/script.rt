@@ -1,9 +1,9 @@
 // A table of script lines: each row of the grammar spelt well, spelt wrong, and out of range at both ends.
-use super::{Line, Mark, MarkKind, Name};
 use arrayvec::ArrayVec;
 use std::process::Abort;
 use std::test::Fail;
 use uac_pcm::Tone;
+use uac_script::{Line, Mark, MarkKind, Name};
 
 /// Reads each text and compares the rule: 0 where the text is a line.
 fn compare(rt: &impl Abort, rows: &[(&str, u8)]) {

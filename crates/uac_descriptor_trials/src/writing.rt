@@ -1,27 +1,12 @@
 // Blocks of a headset's descriptor, written with ample memory.
-use super::*;
-use std::alloc::Global;
+use crate::blocks::{configuration, header, nothing, usb_input};
 use std::test::Fail;
-
-fn nothing(alloc: Global) -> ByteList {
-    ByteList::from_vec(Vec::new(alloc))
-}
+use uac_descriptor::{Block, ByteList, EndpointBits, Feature, Mixer, WordList};
 
 #[test]
 fn writes_an_input_terminal(rt: HostRuntime) -> Result<(), Fail> {
     let mut out = nothing(rt.alloc());
-    let terminal = InputTerminal {
-        id: 2,
-        terminal_type: 0x0101,
-        assoc: 0,
-        clock: 1,
-        channels: 2,
-        locations: 3,
-        names: 0,
-        controls: 0,
-        name: 0,
-    };
-    assert_eq!(rt; Block::InputTerminal(terminal).write(&mut out), Ok(()));
+    assert_eq!(rt; usb_input().write(&mut out), Ok(()));
     let want = [
         0x11, 0x24, 0x02, 0x02, 0x01, 0x01, 0x00, 0x01, 0x02, 0x03, 0x00, 0x00, 0x00, 0x00, 0x00,
         0x00, 0x00,
@@ -33,22 +18,8 @@ fn writes_an_input_terminal(rt: HostRuntime) -> Result<(), Fail> {
 #[test]
 fn writes_a_header_after_a_configuration(rt: HostRuntime) -> Result<(), Fail> {
     let mut out = nothing(rt.alloc());
-    let configuration = Configuration {
-        total: 0x0113,
-        interfaces: 4,
-        value: 1,
-        name: 0,
-        attributes: 0x80,
-        power: 0x32,
-    };
-    let header = Header {
-        version: 0x0200,
-        category: 4,
-        total: 0x6B,
-        controls: 0,
-    };
-    assert_eq!(rt; Block::Configuration(configuration).write(&mut out), Ok(()));
-    assert_eq!(rt; Block::Header(header).write(&mut out), Ok(()));
+    assert_eq!(rt; configuration(0x0113, 4).write(&mut out), Ok(()));
+    assert_eq!(rt; header(0x6B).write(&mut out), Ok(()));
     let want = [
         9, 2, 0x13, 1, 4, 1, 0, 0x80, 0x32, 9, 0x24, 1, 0, 2, 4, 0x6B, 0, 0,
     ];

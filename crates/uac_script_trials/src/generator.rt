@@ -1,8 +1,8 @@
 // Whole scripts beside those of another program, which was written from the rules of the draws.
-use crate::{Gen, GenSource};
 use arrayvec::ArrayVec;
 use std::process::Abort;
 use uac_edges::Source;
+use uac_gen::{Gen, GenSource};
 
 // The lines of this index, from 0, in the script of 1.
 const KNOWN: [(u32, &[u8]); 6] = [

@@ -1,16 +1,17 @@
 // Each line as it is printed.
-use crate::{
-    Arrival, StreamCounts, write_broken, write_domain, write_done, write_feedback, write_frame,
-    write_given, write_in, write_in_stream, write_level, write_meter, write_out, write_out_stream,
-    write_over, write_passed, write_played, write_ready, write_renders, write_set,
-    write_set_stalled, write_stalled, write_steady, write_time, write_under, write_unknown,
-    write_value, write_view_broken,
-};
 use arrayvec::ArrayVec;
 use std::test::Fail;
 use uac_descriptor::WordList;
 use uac_edges::{Failed, MemorySink};
 use uac_pcm::Frame;
+use uac_ring::{Arrival, StreamCounts};
+use uac_transcript::{
+    write_broken, write_domain, write_done, write_feedback, write_frame, write_given, write_in,
+    write_in_stream, write_level, write_meter, write_out, write_out_stream, write_over,
+    write_passed, write_played, write_ready, write_renders, write_set, write_set_stalled,
+    write_stalled, write_steady, write_time, write_under, write_unknown, write_value,
+    write_view_broken,
+};
 use uac_units::MeterKind;
 
 const LINES: &[u8] = b"ready entities 7 streams 2 domains 1

@@ -1,11 +1,10 @@
 // A headset read whole and in pieces, and faults with their places.
 ghost use Rattle.std.specs.Prelude.{◌<◌};
 
-use crate::fault::ReadStop;
-use crate::reader::Reader;
+use crate::blocks::nothing;
 use std::alloc::Global;
 use uac_descriptor::ByteList;
-use uac_sentence::GrammarFault;
+use uac_grammar::{GrammarFault, ReadStop, Reader};
 
 /// A headset: playback with mute and volume, a microphone, and a HID interface of its own.
 const HEADSET: [u8; 293] = [
@@ -39,7 +38,7 @@ fn write_back(alloc: Global, bytes: &[u8], cut: usize) -> Result<ByteList, ReadS
         reader.feed(piece)?;
     }
     let blocks = reader.finish()?;
-    let mut out = ByteList::from_vec(Vec::new(alloc));
+    let mut out = nothing(alloc);
     for block in blocks.as_slice() {
         if let Err(_) = block.write(&mut out) {
             return Err(ReadStop::NoMemory);

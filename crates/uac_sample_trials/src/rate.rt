@@ -1,6 +1,6 @@
 // Worked examples. The numbers were worked out from the definitions by hand.
-use crate::{Pacer, Steady, report};
 use uac_clock::nominal;
+use uac_rate::{Pacer, Steady, report};
 
 #[test]
 fn half_a_frame_is_kept(rt: HostRuntime) {

@@ -1,5 +1,5 @@
 // Worked examples. The numbers were worked out from the definitions by hand.
-use crate::{Nominal, Phase, RATES, nominal, step};
+use uac_clock::{Nominal, Phase, RATES, nominal, step};
 
 #[test]
 fn nominal_values_of_the_rates(rt: HostRuntime) {

@@ -4,12 +4,15 @@ ghost use Rattle.std.specs.Prelude.{◌≡◌, ◌+◌, ◌^◌, ◌<◌, ◌≤
 ghost use Rattle.uac_units.specs.Fitting.{IsFitted};
 ghost use Rattle.uac_units.specs.Rendering.{FitsKind, job_samples};
 
-use crate::*;
 use arrayvec::ArrayVec;
 use std::cell::Cell;
 use std::rc::Rc;
 use std::test::Fail;
 use uac_pcm::Frame;
+use uac_units::{
+    ClippedMeter, Job, LaneFeature, LaneMixer, Meter, MeterKind, Meters, PeakMeter, Pins,
+    PlainEffect, PlainFeature, PlainMixer, PlainSelector, Rack, Steps, SumMeter, Unit, UnitKind,
+};
 
 /// A gain of 0 decibels, and one decibel down.
 const FULL: u32 = 1073741824;

@@ -1,15 +1,14 @@
 // Lines in pieces of any size, with a fault, without an end, and at the limits.
 ghost use Rattle.std.specs.Prelude.{◌≤◌};
-ghost use Rattle.uac_lines.specs.ScriptLines.{most_of_input};
 
-use super::unread::Unread;
-use super::{LineStop, Lines, Next};
-use arrayvec::ArrayVec;
 use std::alloc::Global;
+use std::io;
+use std::io::Read;
 use std::process::Abort;
 use std::test::Fail;
 use uac_descriptor::{ByteList, WordList};
-use uac_edges::{MemorySource, Source};
+use uac_edges::{MemorySource, Source, StdSource};
+use uac_lines::{LineStop, Lines, Next};
 
 // The next line is this one, of this number.
 fn expect_line<S: Source>(
@@ -126,8 +125,7 @@ fn line_of_4097_bytes(rt: HostRuntime) -> Result<(), Fail> {
     Ok(())
 }
 
-// The second call fails: the line that the first call gave comes first, what it gave besides is
-// kept, and no call follows.
+// The second call fails: the line that the first call gave comes first, and no call follows.
 #[test]
 fn second_call_fails(rt: HostRuntime) -> Result<(), Fail> {
     let failing = WordList::from_vec(vec![in rt.alloc(); 2]?);
@@ -136,7 +134,6 @@ fn second_call_fails(rt: HostRuntime) -> Result<(), Fail> {
     let mut lines = Lines::new();
     expect_line(&rt, &mut lines, &mut source, b"v 1", 1);
     expect_stop(&rt, &mut lines, &mut source, LineStop::Failed, 1);
-    assert_eq!(rt; lines.unread.as_bytes(), b"q".as_slice());
     let mut into = [0; 8];
     assert_eq!(rt; source.take(&mut into), Ok(1));
     assert_eq!(rt; into[0], b'\n');
@@ -156,18 +153,40 @@ fn no_call_after_the_end(rt: HostRuntime) -> Result<(), Fail> {
     Ok(())
 }
 
-// A reader of an input of at most so many bytes.
-fn reader_of(spare: usize) -> Lines
-    requires { spare ≤ most_of_input }
-{
-    Lines {
-        line: ArrayVec::new(),
-        number: 0,
-        unread: Unread::new(),
-        spare,
-        stop: None,
-        ended: false,
+// A reader of so many bytes: comments, each with its newline, of 4,096 bytes but for the first, which is shorter.
+#[derive(Drop)]
+struct Comments {
+    left: usize,
+}
+
+impl Read for Comments {
+    fn read(&mut self, buf: &mut [u8]) -> io::Result<usize> {
+        if self.left == 0 {
+            return Ok(0);
+        }
+        let to_the_newline = (self.left - 1) % 4096 + 1;
+        let count = to_the_newline.min(self.left).min(buf.len());
+        buf[..count].fill(b'#');
+        self.left -= count;
+        if count > 0 && self.left % 4096 == 0 {
+            buf[count - 1] = b'\n';
+        }
+        Ok(count)
     }
+}
+
+// A reader of lines that may take so many bytes more: it has read comments of all others, 65,536 lines.
+fn reader_of(rt: &impl Abort, spare: usize) -> Lines
+    requires { spare ≤ 4096 }
+{
+    let mut source = StdSource::new(Comments {
+        left: 268_435_456 - spare,
+    });
+    let mut lines = Lines::new();
+    for number in 1..=65536u32 {
+        assert_eq!(rt; lines.next(&mut source), Ok(Next::Line), "at line {number}");
+    }
+    lines
 }
 
 // Lines of two and four bytes, each with its newline, are eight bytes.
@@ -175,14 +194,14 @@ fn reader_of(spare: usize) -> Lines
 fn input_is_too_long(rt: HostRuntime) -> Result<(), Fail> {
     for spare in 5..8 {
         let mut source = source_of(rt.alloc(), &[2, 4], 1)?;
-        let mut lines = reader_of(spare);
-        expect_line(&rt, &mut lines, &mut source, b"##", 1);
-        expect_stop(&rt, &mut lines, &mut source, LineStop::TooLong, 1);
+        let mut lines = reader_of(&rt, spare);
+        expect_line(&rt, &mut lines, &mut source, b"##", 65537);
+        expect_stop(&rt, &mut lines, &mut source, LineStop::TooLong, 65537);
     }
     let mut source = source_of(rt.alloc(), &[2, 4], 1)?;
-    let mut lines = reader_of(8);
-    expect_line(&rt, &mut lines, &mut source, b"##", 1);
-    expect_line(&rt, &mut lines, &mut source, b"####", 2);
-    expect_end(&rt, &mut lines, &mut source, 2);
+    let mut lines = reader_of(&rt, 8);
+    expect_line(&rt, &mut lines, &mut source, b"##", 65537);
+    expect_line(&rt, &mut lines, &mut source, b"####", 65538);
+    expect_end(&rt, &mut lines, &mut source, 65538);
     Ok(())
 }

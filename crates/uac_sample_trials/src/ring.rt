@@ -1,8 +1,8 @@
 // A ring filled and emptied, and what no clause says: that memory is found.
-use crate::{Full, RING_FRAMES, Ring};
 use arrayvec::ArrayVec;
 use std::mem::size_of;
 use uac_pcm::Frame;
+use uac_ring::{Full, RING_FRAMES, Ring};
 
 /// A frame of two channels that tells its number.
 fn frame_with(number: u32) -> Frame {

@@ -1,11 +1,13 @@
 // The real edges over a reader and a writer that answer by a list: an interruption, a fault, and a
 // flush that fails.
-use super::{StdSink, StdSource};
-use crate::{Failed, Sink, Source, give_all};
-use arrayvec::ArrayVec;
+use crate::watched::{Taken, expect_taken, nothing_taken};
+use std::cell::Cell;
 use std::io;
 use std::io::{Error, ErrorKind, Read, Write};
 use std::process::Abort;
+use std::rc::Rc;
+use std::test::Fail;
+use uac_edges::{Failed, Sink, Source, StdSink, StdSource, give_all};
 
 // What a call of the reader or the writer does.
 #[derive(Clone, Copy)]
@@ -64,14 +66,11 @@ fn reads_are_tried_again_and_fail(rt: HostRuntime) {
     });
     let mut into = [0; 4];
     assert_eq!(rt; source.take(&mut into), Ok(3));
-    assert_eq!(rt; source.faults, 0);
     assert_eq!(rt; into, [1, 2, 3, 0]);
     assert_eq!(rt; source.take(&mut into), Err(Failed));
-    assert_eq!(rt; source.faults, 1);
     assert_eq!(rt; source.take(&mut into), Ok(4));
     assert_eq!(rt; into, [4, 5, 6, 7]);
     assert_eq!(rt; source.take(&mut into), Ok(0));
-    assert_eq!(rt; source.faults, 1);
 }
 
 // A reader that tells its bytes.
@@ -86,30 +85,31 @@ fn bytes_are_a_source(rt: HostRuntime) {
     assert_eq!(rt; source.take(&mut into), Ok(0));
 }
 
-// A writer by turns, which holds what it took, and whose flushes go by turns of their own. It is full at 16 bytes.
+// A writer by turns, which tells what it took, and whose flushes go by turns of their own.
 #[derive(Drop)]
 struct FlushingWriter {
-    bytes: ArrayVec<u8, 16>,
     turns: [Reply; 4],
-    at: usize,
     flushes: [Reply; 4],
-    flushed: usize,
+    taken: Rc<Cell<Taken>>,
 }
 
 impl Write for FlushingWriter {
     fn write(&mut self, buf: &[u8]) -> io::Result<usize> {
-        let at = self.at;
-        self.at = at.saturating_add(1);
+        let mut taken = self.taken.get();
+        let at = taken.writes;
+        taken.writes = at.saturating_add(1);
+        self.taken.set(taken);
         let count = move_by(&self.turns, at)?.min(buf.len());
-        match self.bytes.try_extend_from_slice(&buf[..count]) {
-            Ok(()) => Ok(count),
-            Err(_) => Err(Error::from(ErrorKind::WriteZero)),
-        }
+        taken.append(&buf[..count]);
+        self.taken.set(taken);
+        Ok(count)
     }
 
     fn flush(&mut self) -> io::Result<()> {
-        let flushed = self.flushed;
-        self.flushed = flushed.saturating_add(1);
+        let mut taken = self.taken.get();
+        let flushed = taken.flushes;
+        taken.flushes = flushed.saturating_add(1);
+        self.taken.set(taken);
         match move_by(&self.flushes, flushed) {
             Ok(_) => Ok(()),
             Err(error) => Err(error),
@@ -118,31 +118,27 @@ impl Write for FlushingWriter {
 }
 
 // A sink over such a writer.
-fn sink(turns: [Reply; 4], flushes: [Reply; 4]) -> StdSink<FlushingWriter> {
-    StdSink::new(FlushingWriter {
-        bytes: ArrayVec::new(),
+fn sink(
+    taken: &Rc<Cell<Taken>>,
+    turns: [Reply; 4],
+    flushes: [Reply; 4],
+) -> Result<StdSink<FlushingWriter>, Fail> {
+    Ok(StdSink::new(FlushingWriter {
         turns,
-        at: 0,
         flushes,
-        flushed: 0,
-    })
+        taken: taken.clone()?,
+    }))
 }
 
-// Asserts which bytes lie in the writer, how many writes and flushes there were, and how many faults were met.
-fn expect(
-    rt: &impl Abort,
-    sink: &StdSink<FlushingWriter>,
-    bytes: &[u8],
-    calls: (usize, usize),
-    faults: u64,
-) {
-    assert_eq!(rt; sink.output.bytes.as_slice(), bytes);
-    assert_eq!(rt; (sink.output.at, sink.output.flushed), calls);
-    assert_eq!(rt; sink.faults, faults);
+// Asserts which bytes the writer took, and how many writes and flushes there were.
+fn expect(rt: &impl Abort, taken: &Cell<Taken>, bytes: &[u8], calls: (usize, usize)) {
+    let noted = taken.get();
+    assert_eq!(rt; (noted.writes, noted.flushes), calls);
+    expect_taken(rt, taken, bytes, "after these calls");
 }
 
 #[test]
-fn each_write_is_flushed(rt: HostRuntime) {
+fn each_write_is_flushed(rt: HostRuntime) -> Result<(), Fail> {
     let turns = [
         Reply::Moves(2),
         Reply::Interrupted,
@@ -155,45 +151,51 @@ fn each_write_is_flushed(rt: HostRuntime) {
         Reply::Moves(0),
         Reply::Moves(0),
     ];
-    let mut sink = sink(turns, flushes);
+    let taken = nothing_taken(rt.alloc())?;
+    let mut sink = sink(&taken, turns, flushes)?;
     assert_eq!(rt; sink.give(b"ok blo"), Ok(2));
-    expect(&rt, &sink, b"ok", (1, 1), 0);
+    expect(&rt, &taken, b"ok", (1, 1));
     assert_eq!(rt; sink.give(b" blo"), Ok(3));
-    expect(&rt, &sink, b"ok bl", (3, 3), 0);
+    expect(&rt, &taken, b"ok bl", (3, 3));
     assert_eq!(rt; give_all(&mut sink, b"o"), Ok(()));
-    expect(&rt, &sink, b"ok blo", (4, 4), 0);
+    expect(&rt, &taken, b"ok blo", (4, 4));
+    Ok(())
 }
 
 #[test]
-fn writes_that_take_nothing_are_faults(rt: HostRuntime) {
+fn writes_that_take_nothing_are_faults(rt: HostRuntime) -> Result<(), Fail> {
     let turns = [
         Reply::Moves(0),
         Reply::Breaks,
         Reply::Moves(2),
         Reply::Moves(0),
     ];
-    let mut sink = sink(turns, [Reply::Moves(0); 4]);
+    let taken = nothing_taken(rt.alloc())?;
+    let mut sink = sink(&taken, turns, [Reply::Moves(0); 4])?;
     assert_eq!(rt; sink.give(b"ok"), Err(Failed));
-    expect(&rt, &sink, b"", (1, 0), 1);
+    expect(&rt, &taken, b"", (1, 0));
     assert_eq!(rt; sink.give(b"ok"), Err(Failed));
-    expect(&rt, &sink, b"", (2, 0), 2);
+    expect(&rt, &taken, b"", (2, 0));
     assert_eq!(rt; give_all(&mut sink, b"ok\n"), Err(Failed));
-    expect(&rt, &sink, b"ok", (4, 1), 3);
+    expect(&rt, &taken, b"ok", (4, 1));
+    Ok(())
 }
 
 // A flush that fails is a fault, and the sink writes no more.
 #[test]
-fn flushes_that_fail_are_faults(rt: HostRuntime) {
+fn flushes_that_fail_are_faults(rt: HostRuntime) -> Result<(), Fail> {
     let flushes = [
         Reply::Moves(0),
         Reply::Breaks,
         Reply::Moves(0),
         Reply::Moves(0),
     ];
-    let mut sink = sink([Reply::Moves(2); 4], flushes);
+    let taken = nothing_taken(rt.alloc())?;
+    let mut sink = sink(&taken, [Reply::Moves(2); 4], flushes)?;
     assert_eq!(rt; sink.give(b"ok"), Ok(2));
     assert_eq!(rt; sink.give(b"ok"), Err(Failed));
-    expect(&rt, &sink, b"okok", (2, 2), 1);
+    expect(&rt, &taken, b"okok", (2, 2));
     assert_eq!(rt; sink.give(b"ok"), Err(Failed));
-    expect(&rt, &sink, b"okok", (2, 2), 2);
+    expect(&rt, &taken, b"okok", (2, 2));
+    Ok(())
 }

@@ -1,7 +1,7 @@
 // Worked command lines. Each row's answer is what the profile says of its words.
-use crate::{Command, Invocation, RackChoice, WordsFault, read};
 use std::alloc::Global;
 use std::test::Fail;
+use uac_words::{Command, Invocation, RackChoice, WordsFault, read};
 
 /// What the words of a line, parted by one space each, ask for.
 fn ask(alloc: Global, line: &str) -> Result<Result<Invocation, WordsFault>, Fail> {

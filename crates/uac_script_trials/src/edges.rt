@@ -3,9 +3,9 @@ ghost use Rattle.std.specs.Prelude.{◌≡◌, ◌++◌, [], codes, decimal};
 ghost use Rattle.uac_edges.specs.Faults.{HasCause};
 ghost use Rattle.uac_edges.specs.Writing.{Writes};
 
-use crate::{Failed, MemorySink, MemorySource, Sink, Source, SteadySource, TextLine, give_all};
 use std::test::Fail;
 use uac_descriptor::{ByteList, WordList};
+use uac_edges::{Failed, MemorySink, MemorySource, Sink, Source, SteadySource, TextLine, give_all};
 
 // The line that names a broken rule of the grammar and its place.
 fn push_broken(line: &mut TextLine<64>, rule: u8, at: u32)
@@ -101,7 +101,7 @@ fn steady_source_gives_all(rt: HostRuntime) -> Result<(), Fail> {
 }
 
 // Two texts in a row are written as one.
-#[tactic(auto, using(crate::proofs::WritingLemmas::writings))]
+#[tactic(auto, using(uac_edges::proofs::WritingLemmas::writings))]
 fn give_both<K: Sink>(sink: &mut K, first: &[u8], second: &[u8]) -> Result<(), Failed>
     ensures written { Writes (K.written sink.old) (K.written sink.new) result (first.now ++ second.now) }
     ensures cause { HasCause (K.faults sink.old) (K.faults sink.new) result }

@@ -1,21 +1,10 @@
 // A small function, and one whose output terminal names no entity, with ample memory.
-use super::*;
+use crate::blocks::{configuration, interface, usb_input};
 use std::alloc::{AllocError, Global};
 use std::test::Fail;
-use uac_descriptor::{Block, ClockSource, Configuration, InputTerminal, Interface, OutputTerminal};
+use uac_descriptor::{Block, ClockSource, OutputTerminal};
 use uac_sentence::are_well_formed;
-
-fn interface(number: u8, subclass: u8) -> Block {
-    Block::Interface(Interface {
-        number,
-        setting: 0,
-        endpoints: 0,
-        class: 1,
-        subclass,
-        protocol: 0x20,
-        name: 0,
-    })
-}
+use uac_topology::{CheckStop, Function, TopologyFault, check};
 
 fn push(blocks: &mut Vec<Block>, block: Block) -> Result<(), AllocError> {
     match blocks.push(block) {
@@ -27,17 +16,7 @@ fn push(blocks: &mut Vec<Block>, block: Block) -> Result<(), AllocError> {
 // A USB terminal 2 under clock 1 that feeds a jack 3, and the streaming interface 7.
 fn blocks(alloc: Global, source: u8) -> Result<Vec<Block>, AllocError> {
     let mut blocks = Vec::new(alloc);
-    push(
-        &mut blocks,
-        Block::Configuration(Configuration {
-            total: 77,
-            interfaces: 2,
-            value: 1,
-            name: 0,
-            attributes: 0x80,
-            power: 50,
-        }),
-    )?;
+    push(&mut blocks, configuration(77, 2))?;
     push(&mut blocks, interface(4, 1))?;
     push(
         &mut blocks,
@@ -49,20 +28,7 @@ fn blocks(alloc: Global, source: u8) -> Result<Vec<Block>, AllocError> {
             name: 0,
         }),
     )?;
-    push(
-        &mut blocks,
-        Block::InputTerminal(InputTerminal {
-            id: 2,
-            terminal_type: 0x0101,
-            assoc: 0,
-            clock: 1,
-            channels: 2,
-            locations: 3,
-            names: 0,
-            controls: 0,
-            name: 0,
-        }),
-    )?;
+    push(&mut blocks, usb_input())?;
     push(
         &mut blocks,
         Block::OutputTerminal(OutputTerminal {

@@ -1,6 +1,6 @@
 // Worked examples. The numbers were worked out from the definitions by hand.
-use crate::{Format, Frame, Packet, Tone};
 use arrayvec::ArrayVec;
+use uac_pcm::{Format, Frame, Packet, Tone};
 
 /// The most negative sample, -1, 0, 1 and the most positive.
 const EXTREMES: [i32; 5] = [-2147483648, -1, 0, 1, 2147483647];

@@ -1,5 +1,5 @@
 // Worked examples. The numbers were worked out from the definitions by hand.
-use crate::settle_bound;
+use uac_settle::settle_bound;
 
 #[test]
 fn bounds_of_the_rates(rt: HostRuntime) {
