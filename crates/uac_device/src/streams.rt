@@ -21,7 +21,7 @@ pub struct Begun {
 }
 
 /// What a device answered to a request, and what the request began, if anything.
-#[derive(Debug)]
+#[derive(Drop)]
 pub struct Acted {
     pub answer: Answer,
     pub began: Option<Begun>,
