@@ -7,11 +7,10 @@ pub mod laws;
 mod subslots;
 mod tones;
 
+use arrayvec::ArrayVec;
 pub use blanks::{resize, silence};
 pub use formats::Format;
 pub use tones::Tone;
-
-use arrayvec::ArrayVec;
 
 /// One sample for each channel, of full scale: signed numbers of 32 bits.
 pub type Frame = ArrayVec<i32, 32>;

@@ -153,7 +153,7 @@ fn no_call_after_the_end(rt: HostRuntime) -> Result<(), Fail> {
     Ok(())
 }
 
-// A reader of so many bytes: comments, each with its newline, of 4,096 bytes but for the first, which is shorter.
+// A reader of so many bytes: comments of 4,096 bytes with their newlines, but for the first, which may be shorter.
 #[derive(Drop)]
 struct Comments {
     left: usize,
@@ -161,15 +161,10 @@ struct Comments {
 
 impl Read for Comments {
     fn read(&mut self, buf: &mut [u8]) -> io::Result<usize> {
-        if self.left == 0 {
-            return Ok(0);
-        }
-        let to_the_newline = (self.left - 1) % 4096 + 1;
-        let count = to_the_newline.min(self.left).min(buf.len());
-        buf[..count].fill(b'#');
-        self.left -= count;
-        if count > 0 && self.left % 4096 == 0 {
-            buf[count - 1] = b'\n';
+        let count = self.left.min(buf.len());
+        for byte in &mut buf[..count] {
+            self.left = self.left.saturating_sub(1);
+            *byte = if self.left % 4096 == 0 { b'\n' } else { b'#' };
         }
         Ok(count)
     }
