@@ -21,7 +21,7 @@ use uac_descriptor::{Block, NoMemory};
 use uac_edges::{Failed, Sink, Source};
 use uac_grammar::ReadStop;
 use uac_listing::{write_blocks, write_elements, write_entities, write_settings};
-use uac_running::fresh_view;
+use uac_mixer::fresh_view;
 use uac_sentence::laws::sentences_are_well_formed;
 use uac_store::Store;
 use uac_topology::{CheckStop, Function, check};

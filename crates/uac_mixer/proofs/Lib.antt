@@ -11,3 +11,4 @@ pub mod ViewLinksCallLemmas
 pub mod ViewLinksReadLemmas
 pub mod MixerElementsKeyLemmas
 mod Worked
+pub mod ReadingLemmas

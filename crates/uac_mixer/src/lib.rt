@@ -18,9 +18,12 @@ mod listing;
 mod transfers;
 /// The view.
 mod view;
+/// A device and its view at the start.
+mod viewed;
 
 pub use element::{Element, ElementName};
 pub use faults::{SetFault, ViewFault};
 pub use kinds::ElementKind;
 pub use link::{Broken, DeviceLink, Link, When};
 pub use view::View;
+pub use viewed::{Viewed, fresh_view, fresh_viewed};

@@ -2,6 +2,7 @@
 ghost use Rattle.uac_store.specs.StoreControls.{IsStoreOf};
 
 use crate::answers::copy_of;
+use uac_device::laws::controls_are_stored;
 use uac_device::{Begun, Device};
 use uac_request::{Answer, Setup};
 use uac_topology::Function;
@@ -63,13 +64,13 @@ impl<'a> DeviceLink<'a> {
 
     /// A link to a device. It tells `fault` and has no last answer.
     pub fn new(device: &'a mut Device, fault: Option<When>) -> DeviceLink<'a>
-        requires { IsStoreOf device.old.function.entities device.old.controls }
         ensures same_reference { result.device.ghost_name ≡ device.entry.ghost_name }
         ensures device { result.device.now ≡ device.old }
         ensures last { result.last ≡ None }
         ensures began { result.began ≡ None }
         ensures fault { result.fault ≡ fault }
     {
+        controls_are_stored(device);
         DeviceLink {
             device,
             last: None,

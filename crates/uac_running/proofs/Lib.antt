@@ -11,6 +11,5 @@ pub mod NamingLemmas
 pub mod RoomLemmas
 pub mod RunningTransfersLemmas
 pub mod RunningTransfersLineLemmas
-pub mod ViewLinksLemmas
 pub mod RunningLinesReportLemmas
 pub mod Worked

@@ -24,6 +24,7 @@ use Rattle.uac_device.specs.DeviceWorld.{resting_domain, fresh, is_input_jack, i
 use Rattle.uac_streaming.specs.StreamingKept as streaming
 use Rattle.uac_streaming.specs.StreamingWorld.{streaming_start}
 use Rattle.uac_mixer.specs.ViewWorld.{known_view}
+use Rattle.uac_mixer.proofs.ReadingLemmas.{function_kept}
 use Rattle.uac_store.specs.StoreControls.{initial_controls}
 use Rattle.uac_configuration.specs.Configuration.{configuration_of}
 use Rattle.uac_report.specs.declared.counts.TickCount.{TickCount}
@@ -121,17 +122,6 @@ module _ (entities : List Entity) (graph : IsSignalGraph entities) where
       (known k d below).most (input_no_clock e.kind (is_jack e) (input k d below)))
 
 -- ---- all of it
-
-pub function_kept : (function : FunctionFields) (d : device.DeviceFields) → device.DeviceStands d (fresh function) → d.function ≡ function
-unfolding fresh
-function_kept function d stands = stands.function
-
--- what is read of a fresh device
-pub known_start : (function : FunctionFields) (d : device.DeviceFields) → device.DeviceStands d (fresh function)
-    → known_view d.function.entities d.controls ≡ known_view function.entities (initial_controls function.entities)
-unfolding fresh
-known_start function d stands =
-    ap (λ (f : FunctionFields). known_view f.entities d.controls) stands.function ∙ ap (known_view function.entities) stands.controls
 
 module _ (function : FunctionFields) (sound : IsSoundFunction function) (p : RunningFields) (fresh_now : device.DeviceStands p.device (fresh function))
     (jacks : p.jacks ≡ map silent_jack (filter is_input_jack function.entities)) (counts : p.counts ≡ map none_counted function.domains) where

@@ -22,7 +22,10 @@ use Rattle.uac_alt.specs.AltStreams.{StreamFields, stream_fields, stream_of}
 use Rattle.uac_alt.specs.declared.values.Stream.{Stream}
 use Rattle.uac_entities.specs.declared.stream.StreamInterface.{StreamInterface}
 use Rattle.uac_host.specs.HostCalls.{IsStreamOf}
-use Rattle.uac_device.specs.DeviceWorld.{DeviceWorld, after_control, after_restart, stream_in_setting}
+use Rattle.uac_device.specs.declared.streams.Begun.{Begun}
+use Rattle.uac_device.specs.DeviceKept.{begun_fields}
+use Rattle.uac_device.specs.DeviceWorld.{BegunFields, DeviceWorld, after_control, after_restart, begun_by, stream_in_setting}
+use Rattle.std.proofs.Math.Bool.{and-false}
 use Rattle.uac_mixer.specs.Agreement.{IsMade}
 use Rattle.uac_mixer.specs.ViewLinks.{BreaksAs, IsAnswered, BreaksAsFaultSays, IsUntouched, LinkFields}
 use Rattle.uac_mixer.specs.ViewTransfers.{view_after}
@@ -105,20 +108,40 @@ beside s d e w v stands acted same = record {
   steady = stands.steady;
 }
 
--- the last answer over a link that tells its fault was that the device was done: it acted and was
-told_done : (fault : Option When) (came : Option AnswerFields) (p : Setup) (sent : List ℕ) (old new : LinkFields) (reply : AnswerFields)
-    → BreaksAsFaultSays fault p sent came old new → IsAnswered p sent came old new → old.last ≡ None
+-- what a setting that is held begins
+abbrev pub begins : Bool → Setup → FunctionFields → List (Key × ℤ) → Option BegunFields
+begins held p function controls =
+    if held then Some (record { interface = p.index; stream = stream_in_setting function controls p.index p.value }) else None
+
+-- over a link that tells its fault a setting was begun where the device acted and was done
+told_began : (fault : Option When) (came : Option AnswerFields) (p : Setup) (sent : List ℕ) (old new : LinkFields) (reply : AnswerFields)
+    → BreaksAsFaultSays fault p sent came old new → IsAnswered p sent came old new → old.began ≡ None
     → reply_of old.device.function (request_state old.device.controls old.device.settings) p sent ≡ reply
-    → option_map_or is_done_answer new.last false ≡ (not (breaks_before fault) && is_done_answer reply)
-told_done None None p sent old new reply told answered unanswered is = absurd (let some = told.breaks.0 refl in cc)
-told_done None (Some t) p sent old new reply told answered unanswered is =
-    ap (λ (o : Option AnswerFields). option_map_or is_done_answer o false) answered.last ∙ ap is_done_answer (answered.device.answer ∙ is)
-told_done (Some when.Before) came p sent old new reply told answered unanswered is =
+    → new.began ≡ begins (sets_interface p && (not (breaks_before fault) && is_done_answer reply)) p old.device.function old.device.controls
+unfolding begun_by
+told_began None None p sent old new reply told answered unbegun is = absurd (let some = told.breaks.0 refl in cc)
+told_began None (Some t) p sent old new reply told answered unbegun is =
+    answered.began
+    ∙ ap (λ (b : Bool). begins (sets_interface p && b) p old.device.function old.device.controls) (ap is_done_answer (answered.device.answer ∙ is))
+told_began (Some when.Before) came p sent old new reply told answered unbegun is =
     let kept : IsUntouched old new = told.at when.Before refl in
-    ap (λ (o : Option AnswerFields). option_map_or is_done_answer o false) (kept.last ∙ unanswered)
-told_done (Some when.After) came p sent old new reply told answered unanswered is =
-    let stream_fields : BreaksAs when.After p sent old new = told.at when.After refl in
-    ap (λ (o : Option AnswerFields). option_map_or is_done_answer o false) stream_fields.1.last ∙ ap is_done_answer (stream_fields.1.device.answer ∙ is)
+    kept.began
+    ∙ unbegun
+    ∙ ap (λ (b : Bool). begins b p old.device.function old.device.controls) (sym (and-false (sets_interface p)))
+told_began (Some when.After) came p sent old new reply told answered unbegun is =
+    let acts_first : BreaksAs when.After p sent old new = told.at when.After refl in
+    acts_first.1.began
+    ∙ ap (λ (b : Bool). begins (sets_interface p && b) p old.device.function old.device.controls) (ap is_done_answer (acts_first.1.device.answer ∙ is))
+
+-- what was begun tells whether a setting is held, and which stream its interface has
+pub held_by : (held : Bool) (x : BegunFields) (begun : Begun) → Some (begun_fields begun) ≡ (if held then Some x else None)
+    → (held ≡ true) × (begun_fields begun ≡ x)
+held_by true x begun is = (refl, (let same = is in cc))
+held_by false x begun is = absurd (let none : Some (begun_fields begun) ≡ None = is in cc)
+
+pub rests_by : (held : Bool) (x : BegunFields) → None ≡ (if held then Some x else None) → held ≡ false
+rests_by true x is = absurd (let none : None ≡ Some x = is in cc)
+rests_by false x is = refl
 
 -- a stream that is asked for is one of its interface
 asked_is : (f : FunctionFields) (controls : List (Key × ℤ)) (interface setting : ℕ) (x : StreamFields)
@@ -168,12 +191,13 @@ module _ (meters : List Reading) (r : RunningWorld) (p q : RunningFields) (setup
       came_by p.breaks came setup sent old new (reply_in setup sent r) (made.transfer.told p.breaks fault) made.transfer.answered (replies old.device r setup sent stands_lent)
       ∙ ap (λ (o : Option When). if is_some o then None else Some (reply_in setup sent r)) stands.breaks
 
-  -- the setting is held where the request sets one and the last answer is that the device was done
-  pub setting_held : old.last ≡ None → (sets_interface setup && option_map_or is_done_answer new.last false) ≡ holds_setting setup sent r
-  setting_held unanswered =
-      ap (λ (b : Bool). sets_interface setup && b)
-      (told_done p.breaks came setup sent old new (reply_in setup sent r) (made.transfer.told p.breaks fault) made.transfer.answered unanswered (replies old.device r setup sent stands_lent)
-      ∙ ap (λ (o : Option When). not (breaks_before o) && is_done_answer (reply_in setup sent r)) stands.breaks)
+  -- what the link began is what the device holds
+  pub began_told : old.began ≡ None → new.began ≡ begins (holds_setting setup sent r) setup r.device.function r.device.controls
+  began_told unbegun =
+      told_began p.breaks came setup sent old new (reply_in setup sent r) (made.transfer.told p.breaks fault) made.transfer.answered unbegun (replies old.device r setup sent stands_lent)
+      ∙ ap (λ (o : Option When). begins (sets_interface setup && (not (breaks_before o) && is_done_answer (reply_in setup sent r))) setup old.device.function old.device.controls) stands.breaks
+      ∙ ap (λ (f : FunctionFields). begins (holds_setting setup sent r) setup f old.device.controls) stands_lent.function
+      ∙ ap (λ (controls : List (Key × ℤ)). begins (holds_setting setup sent r) setup r.device.function controls) stands_lent.controls
 
   pub function_kept : (acts r.breaks r.device (after_control setup sent r.device)).function ≡ r.device.function
   function_kept = acts_kept (λ d. d.function) r.breaks r.device (after_control setup sent r.device) (controlled_function setup sent r.device)

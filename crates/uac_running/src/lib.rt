@@ -15,6 +15,5 @@ mod transfers;
 pub use jacks::Jack;
 pub use naming::{all_name_streams, are_frames, has_out};
 pub use running::Running;
-pub use transfers::fresh_view;
 pub use uac_report::TickCount;
 pub use uac_ring::StreamCounts;

@@ -20,13 +20,12 @@ ghost use Rattle.uac_streaming.specs.StreamingKept as streams;
 ghost use Rattle.uac_streaming.specs.StreamingWorld.{streaming_start};
 
 use crate::jacks::{Jack, set_tone, silent_jacks};
-use crate::transfers::fresh_viewed;
 use std::alloc::Global;
 use std::marker::Model;
 use uac_descriptor::{ByteList, NoMemory};
 use uac_device::Device;
 use uac_edges::{Failed, Sink};
-use uac_mixer::{View, When};
+use uac_mixer::{View, When, fresh_viewed};
 use uac_pcm::Tone;
 use uac_report::{TickCount, no_ticks, write_head, write_rest};
 use uac_streaming::Streaming;

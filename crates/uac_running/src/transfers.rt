@@ -1,17 +1,13 @@
 // Control transfers of a running device, and the elements of the host's view.
-ghost use Rattle.std.specs.Prelude.{◌≡◌, ◌<◌, ◌∷◌, [], List, length, slice_get, true, false, Some, None, IfOk};
+ghost use Rattle.std.specs.Prelude.{◌≡◌, ◌<◌, ◌∷◌, [], List, length, slice_get, true, Some, None};
 ghost use Rattle.std.specs.Prelude.{IfSome};
 ghost use Rattle.std.specs.Option.{option_and_then};
-ghost use Rattle.uac_store.specs.StoreControls.{initial_controls};
 ghost use Rattle.uac_request.specs.Requests.{answer_fields, value_bytes};
 ghost use Rattle.uac_units.specs.Hearing.{Reading};
 ghost use Rattle.uac_edges.specs.Faults.{HasCause};
-ghost use Rattle.uac_device.specs.DeviceWorld.{DeviceWorld, fresh};
-ghost use Rattle.uac_device.specs.DeviceKept as kept;
 ghost use Rattle.uac_mixer.specs.declared.element.Element.{Element};
 ghost use Rattle.uac_mixer.specs.MixerElements.{fits_element, width_of};
 ghost use Rattle.uac_mixer.specs.ViewTransfers.{came_of, came_of_set, get_of, set_of};
-ghost use Rattle.uac_mixer.specs.ViewWorld.{IsViewOf, known_view};
 ghost use Rattle.uac_transcript.specs.Printing.{Prints};
 ghost use Rattle.uac_transcript.specs.Transcript.{says_answer, says_view};
 ghost use Rattle.uac_running.specs.RunningWorld.{RunningWorld};
@@ -22,66 +18,13 @@ ghost use Rattle.uac_running.specs.RunningTransfers as spec;
 ghost use Rattle.uac_running.specs.RunningKept.{RunningStands, RunningStandsBetween, RunningTellsBetween};
 
 use crate::running::Running;
-use std::alloc::Global;
-use uac_descriptor::NoMemory;
-use uac_device::laws::controls_are_stored;
-use uac_device::Device;
 use uac_edges::{Failed, Sink};
-use uac_mixer::{Broken, DeviceLink, Element, SetFault, View, ViewFault, When};
+use uac_mixer::{Broken, DeviceLink, Element, SetFault, When};
 use uac_request::{Answer, Setup};
-use uac_topology::Function;
 use uac_transcript::{
     write_broken, write_done, write_given, write_set, write_set_stalled, write_stalled,
     write_unknown, write_value, write_view_broken,
 };
-
-/// A device, and what its host knows of it.
-#[derive(Drop)]
-pub(crate) struct Viewed {
-    pub(crate) device: Device,
-    pub(crate) view: View,
-}
-
-/// A device whose host has read every value.
-fn with_view(alloc: Global, device: Device) -> Result<Viewed, NoMemory>
-    ensures view { IfOk result (λ viewed. viewed.view ≡ known_view device.function.entities device.controls) }
-    ensures of_function { IfOk result (λ viewed. IsViewOf viewed.device.function.entities viewed.view) }
-    ensures stands { IfOk result (λ viewed. (w : DeviceWorld) → kept.DeviceStands device w → kept.DeviceStands viewed.device w) }
-    ensures function { IfOk result (λ viewed. viewed.device.function ≡ device.function) }
-{
-    controls_are_stored(&device);
-    let mut device = device;
-    let mut link = DeviceLink::new(&mut device, None);
-    let read = View::read(alloc, &mut link);
-    match read {
-        Ok(view) => Ok(Viewed { device, view }),
-        Err(ViewFault::NoMemory) => {
-            device.let_go();
-            Err(NoMemory)
-        }
-        Err(ViewFault::Broken) => unreachable!(),
-    }
-}
-
-/// What a host's mixer shows of a fresh device of a function.
-pub fn fresh_view(alloc: Global, function: Function) -> Result<View, NoMemory>
-    ensures { IfOk result (λ view. view ≡ known_view function.entities (initial_controls function.entities)) }
-{
-    let viewed = fresh_viewed(alloc, function)?;
-    viewed.device.let_go();
-    Ok(viewed.view)
-}
-
-/// A fresh device of a function, whose host has read every value.
-pub(crate) fn fresh_viewed(alloc: Global, function: Function) -> Result<Viewed, NoMemory>
-    ensures view { IfOk result (λ viewed. viewed.view ≡ known_view function.entities (initial_controls function.entities)) }
-    ensures of_function { IfOk result (λ viewed. IsViewOf viewed.device.function.entities viewed.view) }
-    ensures stands { IfOk result (λ viewed. kept.DeviceStands viewed.device (fresh function)) }
-    ensures function { IfOk result (λ viewed. viewed.device.function ≡ function) }
-{
-    let device = Device::new(alloc, function)?;
-    with_view(alloc, device)
-}
 
 /// When a transfer breaks.
 fn break_at(after: bool) -> When
@@ -123,7 +66,6 @@ impl Running {
         ensures came { (meters : List Reading) (r : RunningWorld) → RunningStands self.old meters r
             → came_of result ≡ comes_back setup.now sent.now r }
     {
-        controls_are_stored(&self.device);
         let fault = self.breaks.take();
         let mut link = DeviceLink::new(&mut self.device, fault);
         let came = self.view.transfer(&mut link, setup, sent);
@@ -224,7 +166,6 @@ impl Running {
             → slice_get r.view.elements at ≡ Some x
             → spec.IsRead x r result }
     {
-        controls_are_stored(&self.device);
         let fault = self.breaks.take();
         let mut link = DeviceLink::new(&mut self.device, fault);
         self.view.get(at, &mut link)
@@ -264,7 +205,6 @@ impl Running {
             → slice_get r.view.elements at ≡ Some x
             → came_of_set result ≡ comes_back (set_of r.device.function.control_interface x) (value_bytes (width_of x.kind) value) r }
     {
-        controls_are_stored(&self.device);
         let fault = self.breaks.take();
         let mut link = DeviceLink::new(&mut self.device, fault);
         self.view.set(at, value, &mut link)

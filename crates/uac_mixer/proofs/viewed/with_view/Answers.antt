@@ -1,6 +1,6 @@
 use Rattle.std.proofs.Common.{rules}
-use Rattle.uac_running.proofs.ViewLinksLemmas.{reading_stands}
-use Rattle.uac_running.proofs.transfers.with_view.Goals as goal
+use Rattle.uac_mixer.proofs.ReadingLemmas.{reading_stands}
+use Rattle.uac_mixer.proofs.viewed.with_view.Goals as goal
 
 pub returns-in-Ok-clause-stands : goal.returns-in-Ok-clause-stands
 returns-in-Ok-clause-stands c w stands =

@@ -4,9 +4,9 @@ use Rattle.uac_device.specs.DeviceKept as kept
 use Rattle.uac_device.specs.DeviceWorld.{DeviceWorld, fresh}
 use Rattle.uac_mixer.specs.ViewWorld.{known_view}
 use Rattle.uac_store.specs.StoreControls.{initial_controls}
-use Rattle.uac_running.specs.declared.transfers.Viewed.{Viewed}
-use Rattle.uac_running.proofs.RunningKeptStartLemmas.{function_kept, known_start}
-use Rattle.uac_running.proofs.transfers.fresh_viewed.Goals as goal
+use Rattle.uac_mixer.specs.declared.viewed.Viewed.{Viewed}
+use Rattle.uac_mixer.proofs.ReadingLemmas.{function_kept, known_start}
+use Rattle.uac_mixer.proofs.viewed.fresh_viewed.Goals as goal
 
 pub returns-clause-view : goal.returns-clause-view
 returns-clause-view c =

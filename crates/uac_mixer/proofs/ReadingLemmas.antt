@@ -5,11 +5,14 @@ use Rattle.uac_store.specs.declared.keys.Key.{Key}
 use Rattle.uac_request.specs.Requests.{RequestState, after_request, request_state, reply_of, sets_interface, is_done_answer}
 use Rattle.uac_request.specs.declared.setup.Setup.{Setup}
 use Rattle.uac_device.specs.DeviceKept as device
-use Rattle.uac_device.specs.DeviceWorld.{DeviceWorld, after_control, after_restart, stream_in_setting}
+use Rattle.uac_topology.specs.Function.{FunctionFields}
+use Rattle.uac_store.specs.StoreControls.{initial_controls}
+use Rattle.uac_device.specs.DeviceWorld.{DeviceWorld, after_control, after_restart, fresh, stream_in_setting}
 use Rattle.uac_mixer.specs.Agreement.{IsElementRead}
 use Rattle.uac_mixer.specs.MixerElements.{element_list}
 use Rattle.uac_mixer.specs.ViewLinks.{AreAsked, IsAsBefore, LinkFields}
 use Rattle.uac_mixer.specs.ViewTransfers.{get_of}
+use Rattle.uac_mixer.specs.ViewWorld.{known_view}
 use Rattle.uac_mixer.specs.declared.element.Element.{Element}
 
 -- the world where this is held
@@ -60,3 +63,14 @@ reading_stands old new d e w reading lent back stands =
     subst (λ (f : device.DeviceFields). device.DeviceStands f w) (sym back)
     (read_stands old.device.function.control_interface (element_list old.device.function.entities) old.device new.device w (reading.all refl) reading.as_before
     (subst (λ (f : device.DeviceFields). device.DeviceStands f w) (sym lent) stands))
+
+pub function_kept : (function : FunctionFields) (d : device.DeviceFields) → device.DeviceStands d (fresh function) → d.function ≡ function
+unfolding fresh
+function_kept function d stands = stands.function
+
+-- what is read of a fresh device
+pub known_start : (function : FunctionFields) (d : device.DeviceFields) → device.DeviceStands d (fresh function)
+    → known_view d.function.entities d.controls ≡ known_view function.entities (initial_controls function.entities)
+unfolding fresh
+known_start function d stands =
+    ap (λ (f : FunctionFields). known_view f.entities d.controls) stands.function ∙ ap (known_view function.entities) stands.controls
