@@ -5,11 +5,12 @@ use Rattle.std.proofs.KnownBytes.{Appends-kept}
 use Rattle.uac_edges.specs.Faults.{Rose}
 use Rattle.uac_edges.specs.Writing.{AppendsFront}
 use Rattle.uac_edges.proofs.WritingLemmas.{AppendsFront-whole}
-use Rattle.uac_describe.specs.declared.status.Status.{Status}
-use Rattle.uac_describe.specs.declared.status.Status.TheVariants as statuses
-use Rattle.uac_describe.specs.Closing.{Closes, IsFaultless}
-use Rattle.uac_describe.specs.HandingOn.{HandsOn}
-use Rattle.uac_describe.specs.Outcome.{Outcome}
+use Rattle.uac_ends.specs.declared.status.Status.{Status}
+use Rattle.uac_ends.specs.declared.status.Status.TheVariants as statuses
+use Rattle.uac_ends.specs.Closing.{Closes, IsFaultless}
+use Rattle.uac_ends.specs.HandingOn.{HandsOn}
+use Rattle.uac_ends.specs.Outcome.{Outcome}
+use Rattle.uac_ends.specs.Outside.{Outside, outside}
 
 -- a front that was appended stays
 AppendsFront-kept : (w m w' : Option (List ℕ)) (text : List ℕ) → AppendsFront w m text → Keeps m w' → AppendsFront w w' text
@@ -31,8 +32,8 @@ status_before status status' g f' (inl same) other = same.0
 status_before status status' g f' (inr fault) other = absurd (other fault.1)
 
 -- where no fault is told none was met
-pub faultless_on : (reads reads' f g f' : ℕ) (status status' : Status) → HandsOn status g f' status' → IsFaultless reads reads' f g status
-    → IsFaultless reads reads' f f' status'
-faultless_on reads reads' f g f' status status' (inl same) quiet unread unwritten =
-    let before = quiet (λ is. unread (same.0 ∙ is)) (λ is. unwritten (same.0 ∙ is)) in (before.0, same.1 ∙ before.1)
-faultless_on reads reads' f g f' status status' (inr fault) quiet unread unwritten = absurd (unwritten fault.1)
+pub faultless_on : (before : Outside) (left : Option (List ℕ)) (reads : ℕ) (m w : Option (List ℕ)) (g f' : ℕ) (status status' : Status) → HandsOn status g f' status'
+    → IsFaultless before (outside left reads m g) status → IsFaultless before (outside left reads w f') status'
+faultless_on before left reads m w g f' status status' (inl same) quiet unread unwritten =
+    let earlier = quiet (λ is. unread (same.0 ∙ is)) (λ is. unwritten (same.0 ∙ is)) in (earlier.0, same.1 ∙ earlier.1)
+faultless_on before left reads m w g f' status status' (inr fault) quiet unread unwritten = absurd (unwritten fault.1)

@@ -1,7 +1,7 @@
 // How a run ends.
 ghost use Rattle.std.specs.Prelude.{◌≡◌};
 ghost use Rattle.std.specs.Process.{exit_status};
-ghost use Rattle.uac_describe.specs.Exit.{exit_number};
+ghost use Rattle.uac_ends.specs.Exit.{exit_number};
 
 use std::process::ExitCode;
 

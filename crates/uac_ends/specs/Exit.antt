@@ -1,7 +1,7 @@
 -- The exit status of the process for each way in which a run ends (profile).
 use Rattle.std.specs.Prelude.{ℕ}
-use Rattle.uac_describe.specs.declared.status.Status.{Status}
-use Rattle.uac_describe.specs.declared.status.Status.TheVariants as statuses
+use Rattle.uac_ends.specs.declared.status.Status.{Status}
+use Rattle.uac_ends.specs.declared.status.Status.TheVariants as statuses
 
 abbrev pub exit_number : Status → ℕ
 exit_number statuses.Ok = 0

@@ -1,8 +1,8 @@
 // The end of a run at its sink: its text, and all that waits there.
 ghost use Rattle.std.specs.Prelude.{◌≡◌, ◌≢◌};
 ghost use Rattle.std.specs.Io.KnownBytes.{Keeps};
-ghost use Rattle.uac_describe.specs.Closing.{Closes};
-ghost use Rattle.uac_describe.specs.HandingOn.{HandsOn};
+ghost use Rattle.uac_ends.specs.Closing.{Closes};
+ghost use Rattle.uac_ends.specs.HandingOn.{HandsOn};
 
 use crate::status::Status;
 use uac_edges::{Failed, Sink, give_all};

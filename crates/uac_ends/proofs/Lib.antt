@@ -1,0 +1,2 @@
+pub mod HandingOnLemmas
+pub mod LastLineLemmas
