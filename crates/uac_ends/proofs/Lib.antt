@@ -1,2 +1,2 @@
+pub mod ClosingLemmas
 pub mod HandingOnLemmas
-pub mod LastLineLemmas

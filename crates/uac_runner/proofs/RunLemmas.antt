@@ -24,7 +24,7 @@ use Rattle.uac_runner.specs.Transcript.{Ending, ends, with_lines_first, after_st
 use Rattle.uac_runner.specs.Done.{IsScriptLine, IsDone, IsWanted, EndsLine}
 use Rattle.uac_ends.specs.Closing.{ShowsEnd, Closes}
 use Rattle.uac_ends.specs.Outside.{outside}
-use Rattle.uac_ends.proofs.LastLineLemmas.{closes_as}
+use Rattle.uac_ends.proofs.ClosingLemmas.{closes_as, told_status}
 use Rattle.uac_runner.specs.Run.{IsPrompt, IsRun, StopsAtRefusal}
 use Rattle.uac_runner.specs.LineOutcomes.{IsSilent, Reaches, IsWriteCut, Prevents, stop_last}
 use Rattle.uac_runner.proofs.CutLemmas.{HasDone, none_done, done_more, one_more_done, front_cut, rest_cut}
@@ -609,16 +609,6 @@ closes_stop why is number old new before after status same closed =
     subst (λ (s : LineStop). Closes (told (stop_last s number)) old new before after status) (sym same) closed
 
 -- ---- where no fault is told none was met
-
--- no write failed, so none met a fault
-pub closes_faultless : (o : Outcome) (w w' : Option (List ℕ)) (f f' : ℕ) (status : Status) → Closes o w w' f f' status → status ≢ statuses.WriteFault → f' ≡ f
-closes_faultless o w w' f f' status (inl all) other = all.2
-closes_faultless o w w' f f' status (inr cut) other = absurd (other cut.0)
-
--- the outcome's status is told, or the failed write
-told_status : (o : Outcome) (w w' : Option (List ℕ)) (f f' : ℕ) (status : Status) → Closes o w w' f f' status → status ≢ o.status → status ≢ statuses.WriteFault → ⊥
-told_status o w w' f f' status (inl all) unlike other = unlike all.0
-told_status o w w' f f' status (inr cut) unlike other = other cut.0
 
 -- a line that failed, but for a write, met none
 pub left_faultless : {W L : Type 0} (m : Machine W L) (fault : LineFault) (memory : Bool) (s : Step W L) (Shown : Type 0) (written written' : Option (List ℕ)) (writes writes' : ℕ)

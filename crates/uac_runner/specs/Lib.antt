@@ -3,6 +3,7 @@
 pub mod Machine
 pub mod Transcript
 pub mod Done
+pub mod Fronts
 pub mod Run
 -- What the contracts below them cite: steps of the code, no part of what is promised.
 pub mod LineOutcomes

@@ -1,6 +1,6 @@
 use Rattle.std.proofs.Common.{◌∙◌}
 use Rattle.uac_ends.specs.declared.fault.LineFault.TheVariants as faults
-use Rattle.uac_ends.proofs.LastLineLemmas.{closes_memory}
+use Rattle.uac_ends.proofs.ClosingLemmas.{closes_memory}
 use Rattle.uac_runner.proofs.RunLemmas.{closes_fault, closes_last}
 use Rattle.uac_runner.proofs.run.refuse_line.Goals as goal
 

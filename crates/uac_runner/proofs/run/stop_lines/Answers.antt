@@ -1,5 +1,5 @@
 use Rattle.uac_lines.specs.declared.lines.LineStop.TheVariants as stops
-use Rattle.uac_ends.proofs.LastLineLemmas.{closes_too_long, closes_read_fault}
+use Rattle.uac_ends.proofs.ClosingLemmas.{closes_too_long, closes_read_fault}
 use Rattle.uac_runner.proofs.RunLemmas.{closes_stop}
 use Rattle.uac_runner.proofs.run.stop_lines.Goals as goal
 

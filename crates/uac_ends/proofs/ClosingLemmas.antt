@@ -1,10 +1,12 @@
--- The last lines that are written from a text of their own.
-use Rattle.std.proofs.Common.{◌≡◌, ℕ, List, Option, codes, refl, sym, subst}
+-- How a run was closed.
+use Rattle.std.proofs.Common.{◌≡◌, ◌≢◌, ℕ, inl, inr, List, Option, codes, refl, subst}
 use Rattle.uac_transcript.specs.Transcript.{spelling_of}
 use Rattle.uac_ends.specs.declared.status.Status.{Status}
 use Rattle.uac_ends.specs.declared.status.Status.TheVariants as statuses
 use Rattle.uac_ends.specs.Closing.{Closes}
 use Rattle.uac_ends.specs.Outcome.{Outcome, no_memory, read_fault, too_long}
+
+-- ---- the last lines that are always the same
 
 memory_text : codes "no memory\n" ≡ no_memory.text
 unfolding spelling_of
@@ -34,3 +36,15 @@ closes_read_fault w w' f f' status closed = closes_as read_fault _ w w' f f' sta
 pub closes_too_long : (w w' : Option (List ℕ)) (f f' : ℕ) (status : Status)
     → Closes (record { text = codes "input too long\n"; status = statuses.TooLong }) w w' f f' status → Closes too_long w w' f f' status
 closes_too_long w w' f f' status closed = closes_as too_long _ w w' f f' status too_long_text closed
+
+-- ---- where no fault is told none was met
+
+-- no write failed, so none met a fault
+pub closes_faultless : (o : Outcome) (w w' : Option (List ℕ)) (f f' : ℕ) (status : Status) → Closes o w w' f f' status → status ≢ statuses.WriteFault → f' ≡ f
+closes_faultless o w w' f f' status (inl all) other = all.2
+closes_faultless o w w' f f' status (inr cut) other = absurd (other cut.0)
+
+-- the outcome's status is told, or the failed write
+pub told_status : (o : Outcome) (w w' : Option (List ℕ)) (f f' : ℕ) (status : Status) → Closes o w w' f f' status → status ≢ o.status → status ≢ statuses.WriteFault → ⊥
+told_status o w w' f f' status (inl all) unlike other = unlike all.0
+told_status o w w' f f' status (inr cut) unlike other = other cut.0
