@@ -1,9 +1,10 @@
 -- How a run was closed.
+use Rattle.std.specs.Io.KnownBytes.{Appends}
 use Rattle.std.proofs.Common.{◌≡◌, ◌≢◌, ℕ, inl, inr, List, Option, codes, refl, subst}
 use Rattle.uac_transcript.specs.Transcript.{spelling_of}
 use Rattle.uac_ends.specs.declared.status.Status.{Status}
 use Rattle.uac_ends.specs.declared.status.Status.TheVariants as statuses
-use Rattle.uac_ends.specs.Closing.{Closes}
+use Rattle.uac_ends.specs.Closing.{Closes, HasNoFault}
 use Rattle.uac_ends.specs.Outcome.{Outcome, no_memory, read_fault, too_long}
 
 -- ---- the last lines that are always the same
@@ -48,3 +49,9 @@ closes_faultless o w w' f f' status (inr cut) other = absurd (other cut.0)
 pub told_status : (o : Outcome) (w w' : Option (List ℕ)) (f f' : ℕ) (status : Status) → Closes o w w' f f' status → status ≢ o.status → status ≢ statuses.WriteFault → ⊥
 told_status o w w' f f' status (inl all) unlike other = unlike all.0
 told_status o w w' f f' status (inr cut) unlike other = other cut.0
+
+-- no write failed, so the whole text was written
+pub closed_whole : (outcome : Outcome) (w w' : Option (List ℕ)) (f f' : ℕ) (status : Status) → HasNoFault f f' → Closes outcome w w' f f' status
+    → (status ≡ outcome.status) × Appends w w' outcome.text
+closed_whole outcome w w' f f' status quiet (inl all) = (all.0, all.1)
+closed_whole outcome w w' f f' status quiet (inr cut) = absurd (quiet cut.1)

@@ -13,6 +13,7 @@ use Rattle.uac_ends.specs.Outcome.{End, at_end, read_failed, stopped, Outcome, t
 use Rattle.uac_runner.specs.Transcript.{Ending, after_step, with_lines_first, goes, goes_within, by_head, rest_done, ending_at, last_by, transcript, outcome_of}
 use Rattle.uac_ends.specs.Closing.{Closes, ComesTo, HasNoFault, HasWriteCause, ShowsEnd}
 use Rattle.uac_ends.specs.Outside.{Outside}
+use Rattle.uac_ends.proofs.ClosingLemmas.{closed_whole}
 use Rattle.uac_runner.specs.Done.{IsWanted}
 use Rattle.uac_runner.specs.Run.{IsRun, IsComplete}
 use Rattle.uac_runner.proofs.TranscriptLemmas.{goes_at, line_size, waits_for_more}
@@ -40,12 +41,6 @@ told_same : {W L : Type 0} (short short' : Ending W L) (longer longer' : List �
     → IsTold short longer → IsTold short' longer'
 told_same {W} {L} short short' longer longer' same each (inl waits) = inl (ap (λ (e : Ending W L). status_of e) same ∙ waits)
 told_same short short' longer longer' same each (inr stays) = inr (λ more end. each more end ∙ stays more end ∙ sym same)
-
--- no write failed, so the whole text was written
-closed_whole : (outcome : Outcome) (w w' : Option (List ℕ)) (f f' : ℕ) (status : Status) → HasNoFault f f' → Closes outcome w w' f f' status
-    → (status ≡ outcome.status) × Appends w w' outcome.text
-closed_whole outcome w w' f f' status quiet (inl all) = (all.0, all.1)
-closed_whole outcome w w' f f' status quiet (inr cut) = absurd (quiet cut.1)
 
 -- what was taken is a front of all the bytes, and all of them where none is left
 record IsFront (bytes taken : List ℕ) (left : Option (List ℕ)) : Type 0 where
