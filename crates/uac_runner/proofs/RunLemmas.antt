@@ -19,7 +19,7 @@ use Rattle.uac_ends.specs.declared.fault.LineFault.TheVariants as faults
 use Rattle.uac_ends.specs.declared.status.Status.{Status}
 use Rattle.uac_ends.specs.declared.status.Status.TheVariants as statuses
 use Rattle.uac_runner.specs.Machine.{Machine, Step, done, refused, text_of, after}
-use Rattle.uac_ends.specs.Outcome.{End, at_end, read_failed, stopped, Outcome, told, at_refusal, at_long_line, past_limit, at_failed_read, without_memory, no_memory}
+use Rattle.uac_ends.specs.Outcome.{End, at_end, read_failed, stopped, told, at_refusal, at_long_line, past_limit, at_failed_read, without_memory, no_memory}
 use Rattle.uac_runner.specs.Transcript.{Ending, ends, with_lines_first, after_step, ending_at, last_by, goes, transcript, outcome_of}
 use Rattle.uac_runner.specs.Done.{IsScriptLine, IsDone, IsWanted, EndsLine}
 use Rattle.uac_ends.specs.Closing.{ShowsEnd, Closes}
