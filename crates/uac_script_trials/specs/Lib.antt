@@ -1,0 +1,2 @@
+-- A machine of the tests.
+pub mod Counting
