@@ -16,7 +16,7 @@ use Rattle.uac_flow.specs.FlowStreams.{InStream, OutStream}
 use Rattle.uac_device_streams.specs.declared.device_stream.DeviceStream.{DeviceStream}
 use Rattle.uac_device_streams.specs.declared.device_stream.Port.{Port}
 use Rattle.uac_device_streams.specs.InterfaceStreams.{in_from, out_from, streams_replaced_at}
-use Rattle.uac_device.specs.DeviceWorld.{DeviceWorld, after_control, after_restart, stream_in_setting}
+use Rattle.uac_device.specs.DeviceWorld.{BegunFields, DeviceWorld, after_control, after_restart, begun_by, stream_in_setting}
 use Rattle.uac_device.specs.DeviceKept.{DeviceFields, IsControlled, IsDevice, DeviceStands}
 use Rattle.uac_device_streams.specs.DeviceStreams.{DeviceStreamsStand, port_of, ports}
 use Rattle.uac_device.specs.Linked.{FitsInterface}
@@ -150,3 +150,25 @@ module _ (device : DeviceFields) (controls : List (Key × ℤ)) (settings : List
       → DeviceStreamsStand device_streams (streams_replaced_at p.index (option_and_then out_from begun) outs) (streams_replaced_at p.index (option_and_then in_from begun) ins))
       → IsControlled p bytes told device (record device { controls = controls; settings = settings; device_streams = device_streams })
   control_then device_streams begun test asked restarts = record { answer = answer; held = held; function = refl; stands = stands_then device_streams begun test asked restarts }
+
+-- ---- what a request begins
+
+-- an interface, in a stream or in none
+abbrev begun_with : ℕ → Option StreamFields → BegunFields
+begun_with interface stream = record { interface = interface; stream = stream }
+
+-- a setting that is held begins its interface, in the stream that was asked for
+pub begun_then : (f : FunctionFields) (controls : List (Key × ℤ)) (p : Setup) (told : AnswerFields) (stream : Option StreamFields)
+    → (sets_interface p && is_done_answer told) ≡ true → stream ≡ stream_in_setting f controls p.index p.value
+    → Some (record { interface = p.index; stream = stream }) ≡ begun_by f controls p told
+unfolding begun_by
+begun_then f controls p told stream test asked =
+    ap (λ (s : Option StreamFields). Some (begun_with p.index s)) asked
+    ∙ ap (λ (b : Bool). if b then Some (begun_with p.index (stream_in_setting f controls p.index p.value)) else None) (sym test)
+
+-- and nothing else begins
+pub begun_else : (f : FunctionFields) (controls : List (Key × ℤ)) (p : Setup) (told : AnswerFields)
+    → (sets_interface p && is_done_answer told) ≡ false → None ≡ begun_by f controls p told
+unfolding begun_by
+begun_else f controls p told test =
+    ap (λ (b : Bool). if b then Some (begun_with p.index (stream_in_setting f controls p.index p.value)) else None) (sym test)

@@ -22,7 +22,7 @@ use crate::derived::Derived;
 use crate::hearing::hear;
 use crate::rest::Rest;
 use crate::still::{begin_unless, put_unless};
-use crate::streams::{Acted, Begun, is_done, sets_interface, stream_asked};
+use crate::streams::{Acted, Begun, holds_setting, stream_asked};
 use crate::terminals::is_output_jack;
 use std::alloc::Global;
 use std::marker::Model;
@@ -226,14 +226,15 @@ impl Device {
         );
         self.derived
             .follow(&self.graph, &self.function, &self.store, setup);
-        if sets_interface(setup) && is_done(&answer) {
+        if holds_setting(setup, &answer) {
             self.device_streams.restart(setup.index, begun);
+            let begun = Begun {
+                interface: setup.index,
+                stream: begun,
+            };
             return Acted {
                 answer,
-                began: Some(Begun {
-                    interface: setup.index,
-                    stream: begun,
-                }),
+                began: Some(begun),
             };
         }
         Acted {

@@ -1,5 +1,5 @@
 // The stream that a request starts.
-ghost use Rattle.std.specs.Prelude.{◌≡◌, Some};
+ghost use Rattle.std.specs.Prelude.{◌≡◌, ◌&&◌, Some};
 ghost use Rattle.std.specs.Option.{option_and_then, option_map};
 ghost use Rattle.uac_topology.specs.Function.{interface_in};
 ghost use Rattle.uac_alt.specs.AltStreams.{stream_fields, stream_of};
@@ -27,15 +27,22 @@ pub struct Acted {
     pub began: Option<Begun>,
 }
 
-/// Whether a request sets an interface's setting (USB 2.0, 9.4.10).
-pub(crate) fn sets_interface(setup: &Setup) -> bool
+/// Whether a request has set an interface's setting: it was to, and is done.
+pub(crate) fn holds_setting(setup: &Setup, answer: &Answer) -> bool
+    ensures { result ≡ (requests.sets_interface setup.now && requests.is_done_answer (requests.answer_fields answer.now)) }
+{
+    sets_interface(setup) && is_done(answer)
+}
+
+// Whether a request sets an interface's setting (USB 2.0, 9.4.10).
+fn sets_interface(setup: &Setup) -> bool
     ensures { result ≡ requests.sets_interface setup.now }
 {
     setup.request_type == 1 && setup.request == 11
 }
 
-/// Whether an answer is that the request is done.
-pub(crate) fn is_done(answer: &Answer) -> bool
+// Whether an answer is that the request is done.
+fn is_done(answer: &Answer) -> bool
     ensures { result ≡ requests.is_done_answer (requests.answer_fields answer.now) }
 {
     match answer {

@@ -35,7 +35,7 @@ use Rattle.uac_mixer.specs.declared.link.When.TheVariants as when
 use Rattle.uac_streaming.specs.StreamingKept as streaming
 use Rattle.uac_streaming.specs.StreamingWorld.{StreamingWorld, after_following, met_in, numbers, numbers_in, numbers_out}
 use Rattle.uac_running.specs.RunningWorld.{RunningWorld, streaming_of}
-use Rattle.uac_running.specs.RunningTransfers.{IsRead, acts, break_at, breaks_before, comes_back, holds_setting, reply_in, streams_follow, after_transfer, with_break}
+use Rattle.uac_running.specs.RunningTransfers.{IsRead, acts, break_at, breaks_before, comes_back, holds_setting, reply_in, streams_follow, after_transfer, with_begun, with_break}
 use Rattle.uac_running.specs.RunningKept.{RunningFields, RunningStands}
 use Rattle.uac_report.specs.TickCounts.{tick_count_of}
 
@@ -133,15 +133,12 @@ told_began (Some when.After) came p sent old new reply told answered unbegun is 
     acts_first.1.began
     ∙ ap (λ (b : Bool). begins (sets_interface p && b) p old.device.function old.device.controls) (ap is_done_answer (acts_first.1.device.answer ∙ is))
 
--- what was begun tells whether a setting is held, and which stream its interface has
-pub held_by : (held : Bool) (x : BegunFields) (begun : Begun) → Some (begun_fields begun) ≡ (if held then Some x else None)
-    → (held ≡ true) × (begun_fields begun ≡ x)
-held_by true x begun is = (refl, (let same = is in cc))
-held_by false x begun is = absurd (let none : Some (begun_fields begun) ≡ None = is in cc)
-
-pub rests_by : (held : Bool) (x : BegunFields) → None ≡ (if held then Some x else None) → held ≡ false
-rests_by true x is = absurd (let none : None ≡ Some x = is in cc)
-rests_by false x is = refl
+-- the host's streams follow what a setting that is held begins
+with_begins : (held : Bool) (p : Setup) (f : FunctionFields) (controls : List (Key × ℤ)) (w : StreamingWorld)
+    → with_begun (begins held p f controls) w
+    ≡ (if held then after_following p.index (stream_in_setting f controls p.index p.value) w else w)
+with_begins true p f controls w = refl
+with_begins false p f controls w = refl
 
 -- a stream that is asked for is one of its interface
 asked_is : (f : FunctionFields) (controls : List (Key × ℤ)) (interface setting : ℕ) (x : StreamFields)
@@ -163,6 +160,36 @@ pub begun_is : (begun : Option Stream) (f g : FunctionFields) (controls : List (
 begun_is None f g controls interface setting asked same = tt
 begun_is (Some s) f g controls interface setting asked same =
     subst (λ (h : FunctionFields). IsStreamOf h interface (stream_fields s)) same (asked_is f controls interface setting (stream_fields s) (sym asked))
+
+-- and what was begun is a stream of its interface
+pub begun_is_one : (began : Option Begun) (held : Bool) (p : Setup) (f g : FunctionFields) (controls : List (Key × ℤ))
+    → option_map begun_fields began ≡ begins held p f controls → f ≡ g
+    → IfSome began (λ begun. IfSome begun.stream (λ s. IsStreamOf g begun.interface (stream_fields s)))
+begun_is_one None held p f g controls told same = tt
+begun_is_one (Some begun) false p f g controls told same = absurd (let none : Some (begun_fields begun) ≡ None = told in cc)
+begun_is_one (Some begun) true p f g controls told same =
+    begun_is begun.stream f g controls begun.interface p.value
+    (ap (λ (b : BegunFields). b.stream) is
+    ∙ ap (λ (n : ℕ). stream_in_setting f controls n p.value) (sym (ap (λ (b : BegunFields). b.interface) is))) same
+  where
+    is : begun_fields begun ≡ record { interface = p.index; stream = stream_in_setting f controls p.index p.value }
+    is = (let some : Some (begun_fields begun) ≡ begins true p f controls = told in cc)
+
+-- so is what a link tells of one transfer
+pub begun_over : (p : Setup) (sent : List ℕ) (came : Option AnswerFields) (old new : LinkFields) (began : Option Begun) (g : FunctionFields)
+    → IsAnswered p sent came old new → old.began ≡ None → option_map begun_fields began ≡ new.began → old.device.function ≡ g
+    → IfSome began (λ begun. IfSome begun.stream (λ s. IsStreamOf g begun.interface (stream_fields s)))
+unfolding begun_by
+begun_over p sent (Some told) old new began g answered unbegun is same =
+    begun_is_one began (sets_interface p && is_done_answer told) p old.device.function g old.device.controls (is ∙ answered.began) same
+begun_over p sent None old new began g answered unbegun is same = broken answered.1.0 answered.1.1
+  where
+    broken : (at : When) → BreaksAs at p sent old new
+        → IfSome began (λ begun. IfSome begun.stream (λ s. IsStreamOf g begun.interface (stream_fields s)))
+    broken when.Before kept = begun_is_one began false p old.device.function g old.device.controls (is ∙ kept.began ∙ unbegun) same
+    broken when.After acts_first =
+        begun_is_one began (sets_interface p && is_done_answer acts_first.0) p old.device.function g old.device.controls
+        (is ∙ acts_first.1.began) same
 
 -- following a device changes the host's side alone
 follow_device : (b : Bool) (interface : ℕ) (begun : Option StreamFields) (s : StreamingWorld) → (if b then after_following interface begun s else s).device ≡ s.device
@@ -215,25 +242,19 @@ module _ (meters : List Reading) (r : RunningWorld) (p q : RunningFields) (setup
   streams_stand =
       beside p.streaming p.device new.device (streaming_of r) (acts r.breaks r.device (after_control setup sent r.device)) stands.streaming device_stands function_kept
 
-  -- the streams that followed, where the setting is held, and those that didn't, where it isn't
-  pub followed_stand : (s : streaming.StreamingFields) (begun : Option StreamFields) (f : FunctionFields) → holds_setting setup sent r ≡ true
-      → begun ≡ stream_in_setting r.device.function r.device.controls setup.index setup.value → f ≡ new.device.function
-      → ((d : device.DeviceFields) (w : StreamingWorld) → streaming.StreamingStands p.streaming d w → w.device.function ≡ f → streaming.StreamingStands s d (after_following setup.index begun w))
+  -- the streams that followed what was begun
+  pub begun_stand : (s : streaming.StreamingFields) (began : Option Begun) (f : FunctionFields) → option_map begun_fields began ≡ new.began
+      → old.began ≡ None → f ≡ new.device.function
+      → ((d : device.DeviceFields) (w : StreamingWorld) → streaming.StreamingStands p.streaming d w → w.device.function ≡ f
+      → streaming.StreamingStands s d (with_begun (option_map begun_fields began) w))
       → streaming.StreamingStands s new.device
       (streams_follow setup sent r (with_device (acts r.breaks r.device (after_control setup sent r.device)) (streaming_of r)))
-  followed_stand s begun f holds asked same follows =
+  begun_stand s began f told unbegun same follows =
       let world : StreamingWorld = with_device (acts r.breaks r.device (after_control setup sent r.device)) (streaming_of r) in
       let function = function_kept ∙ sym stands_lent.function ∙ sym made.function ∙ sym same in
-      subst (λ (b : Bool). streaming.StreamingStands s new.device
-      (if b then after_following setup.index (stream_in_setting r.device.function r.device.controls setup.index setup.value) world else world)) (sym holds)
-      (subst (λ (o : Option StreamFields). streaming.StreamingStands s new.device (after_following setup.index o world)) asked (follows new.device world streams_stand function))
-
-  pub rested_stand : holds_setting setup sent r ≡ false → streaming.StreamingStands p.streaming new.device
-      (streams_follow setup sent r (with_device (acts r.breaks r.device (after_control setup sent r.device)) (streaming_of r)))
-  rested_stand rests =
-      let world : StreamingWorld = with_device (acts r.breaks r.device (after_control setup sent r.device)) (streaming_of r) in
-      subst (λ (b : Bool). streaming.StreamingStands p.streaming new.device
-      (if b then after_following setup.index (stream_in_setting r.device.function r.device.controls setup.index setup.value) world else world)) (sym rests) streams_stand
+      subst (λ (v : StreamingWorld). streaming.StreamingStands s new.device v)
+      (ap (λ (o : Option BegunFields). with_begun o world) (told ∙ began_told unbegun)
+      ∙ with_begins (holds_setting setup sent r) setup r.device.function r.device.controls world) (follows new.device world streams_stand function)
 
   pub transfer_stands : q.device ≡ new.device → q.breaks ≡ None → IsRest p q
       → streaming.StreamingStands q.streaming new.device

@@ -9,7 +9,7 @@ use Rattle.uac_store.specs.Keyed.{value_of}
 use Rattle.uac_request.specs.Requests.{AnswerFields, request_state, reply_of, value_bytes, sets_interface}
 use Rattle.uac_request.specs.Requests.{with_bytes, with_descriptor, is_done, is_stalled, is_done_answer}
 use Rattle.uac_request.specs.declared.setup.Setup.{Setup}
-use Rattle.uac_device.specs.DeviceWorld.{DeviceWorld, after_control, stream_in_setting}
+use Rattle.uac_device.specs.DeviceWorld.{BegunFields, DeviceWorld, after_control, stream_in_setting}
 use Rattle.uac_streaming.specs.StreamingWorld.{StreamingWorld, after_following}
 use Rattle.uac_mixer.specs.MixerElements.{name_of, width_of}
 use Rattle.uac_mixer.specs.ViewTransfers.{get_of, set_of, view_after}
@@ -56,6 +56,11 @@ streams_follow p sent r s =
     if holds_setting p sent r
     then after_following p.index (stream_in_setting r.device.function r.device.controls p.index p.value) s
     else s
+
+-- the host's streams after a request that began this, if anything
+abbrev pub with_begun : Option BegunFields → StreamingWorld → StreamingWorld
+with_begun None s = s
+with_begun (Some begun) s = after_following begun.interface begun.stream s
 
 -- the world after a transfer: the device acted, the host's streams follow it, the view follows what came back, and a pending break is
 -- used up

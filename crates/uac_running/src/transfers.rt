@@ -1,10 +1,16 @@
 // Control transfers of a running device, and the elements of the host's view.
 ghost use Rattle.std.specs.Prelude.{◌≡◌, ◌<◌, ◌∷◌, [], List, length, slice_get, true, Some, None};
 ghost use Rattle.std.specs.Prelude.{IfSome};
-ghost use Rattle.std.specs.Option.{option_and_then};
+ghost use Rattle.std.specs.Option.{option_and_then, option_map};
+ghost use Rattle.uac_alt.specs.AltStreams.{stream_fields};
 ghost use Rattle.uac_request.specs.Requests.{answer_fields, value_bytes};
 ghost use Rattle.uac_units.specs.Hearing.{Reading};
 ghost use Rattle.uac_edges.specs.Faults.{HasCause};
+ghost use Rattle.uac_device.specs.DeviceKept as kept;
+ghost use Rattle.uac_device.specs.DeviceKept.{begun_fields};
+ghost use Rattle.uac_host.specs.HostCalls.{IsStreamOf};
+ghost use Rattle.uac_streaming.specs.StreamingKept.{StreamingStands};
+ghost use Rattle.uac_streaming.specs.StreamingWorld.{StreamingWorld};
 ghost use Rattle.uac_mixer.specs.declared.element.Element.{Element};
 ghost use Rattle.uac_mixer.specs.MixerElements.{fits_element, width_of};
 ghost use Rattle.uac_mixer.specs.ViewTransfers.{came_of, came_of_set, get_of, set_of};
@@ -18,9 +24,12 @@ ghost use Rattle.uac_running.specs.RunningTransfers as spec;
 ghost use Rattle.uac_running.specs.RunningKept.{RunningStands, RunningStandsBetween, RunningTellsBetween};
 
 use crate::running::Running;
+use uac_device::Begun;
 use uac_edges::{Failed, Sink};
 use uac_mixer::{Broken, DeviceLink, Element, SetFault, When};
 use uac_request::{Answer, Setup};
+use uac_streaming::Streaming;
+use uac_topology::Function;
 use uac_transcript::{
     write_broken, write_done, write_given, write_set, write_set_stalled, write_stalled,
     write_unknown, write_value, write_view_broken,
@@ -31,6 +40,18 @@ fn break_at(after: bool) -> When
     ensures { result ≡ spec.break_at after }
 {
     if after { When::After } else { When::Before }
+}
+
+/// The host's streams follow what a request began, if it began anything.
+fn follow(streaming: &mut Streaming, function: &Function, began: Option<Begun>)
+    requires { IfSome began (λ begun. IfSome begun.stream (λ s. IsStreamOf function.now begun.interface (stream_fields s))) }
+    ensures { (d : kept.DeviceFields) (w : StreamingWorld) → StreamingStands streaming.old d w → w.device.function ≡ function.now
+        → StreamingStands streaming.new d (spec.with_begun (option_map begun_fields began) w) }
+{
+    match began {
+        Some(begun) => streaming.follow(function, begun.interface, begun.stream),
+        None => {}
+    }
 }
 
 impl Running {
@@ -70,10 +91,7 @@ impl Running {
         let mut link = DeviceLink::new(&mut self.device, fault);
         let came = self.view.transfer(&mut link, setup, sent);
         let began = link.began();
-        if let Some(begun) = began {
-            self.streaming
-                .follow(self.device.function(), begun.interface, begun.stream);
-        }
+        follow(&mut self.streaming, self.device.function(), began);
         came
     }
 
