@@ -21,7 +21,8 @@ use Rattle.uac_runner.specs.Done.{IsScriptLine, come_to, go_unless_refused}
 use Rattle.uac_runner.specs.Transcript.{Ending, ends, goes, last_by, transcript, with_lines_first}
 use Rattle.uac_runner.proofs.ScriptLemmas.{script_lines}
 use Rattle.uac_runner.proofs.TranscriptLemmas.{goes_at, head_nothing}
-use Rattle.uac_scripts.specs.BusMachine.{bus_machine, lifted_fault, rule_at_end}
+use Rattle.uac_scripts.specs.BusLaws.{lifted_fault}
+use Rattle.uac_scripts.specs.BusMachine.{bus_machine, rule_at_end}
 use Rattle.uac_scripts.proofs.BusLemmas.{all_say, answers_by_table, lines_are_sayings}
 use Rattle.uac_call.specs.GeneratedCall.{GeneratedScriptsRunWhole}
 

@@ -22,8 +22,8 @@ use Rattle.uac_runner.specs.Fronts.{EachSteadyFront}
 use Rattle.uac_runner.specs.Transcript.{goes, transcript}
 use Rattle.uac_runner.proofs.ScriptLemmas.{after_said, and_then_same, script_lines, transcript_same}
 use Rattle.uac_runner.proofs.WholeLemmas.{transcript_stays}
-use Rattle.uac_scripts.specs.BusLaws.{HasOneTranscript, LinesAreSayings, RefusalStays, ScriptIsWhatItsLinesSay}
-use Rattle.uac_scripts.specs.BusMachine.{AreByTable, Sayings, bus_machine, lifted, lifted_after}
+use Rattle.uac_scripts.specs.BusLaws.{HasOneTranscript, LinesAreSayings, RefusalStays, ScriptIsWhatItsLinesSay, lifted_after}
+use Rattle.uac_scripts.specs.BusMachine.{AreByTable, Sayings, bus_machine, lifted}
 use Rattle.uac_scripts.specs.BusRun.{IsSteadyIn}
 
 -- ---- lines are what they say

@@ -1,9 +1,5 @@
 -- The bus as a machine: what a text makes of its world, by what the text says (profile).
-use Rattle.std.specs.Prelude.{ℕ, Bool, false, List, map, Option, None, Some, Result, Ok, Err}
-use Rattle.std.specs.declared.alloc.Global.{Global}
-use Rattle.std.specs.declared.dyn_box.DynBox.{DynBox}
-use Rattle.uac_units.specs.Hearing.{Reading}
-use Rattle.uac_units.specs.declared.meter_list.Meters.{Meters}
+use Rattle.std.specs.Prelude.{ℕ, Bool, false, List, Option, None, Some, Result, Ok, Err}
 use Rattle.uac_script.specs.Line.{Says}
 use Rattle.uac_script.specs.Phrase.{Phrase}
 use Rattle.uac_transcript.specs.Transcript.{Said, spelling_of}
@@ -13,10 +9,9 @@ use Rattle.uac_rows.specs.BusWorld.{BusWorld, describing, running}
 use Rattle.uac_rows.specs.BusWorld as bus
 use Rattle.uac_rows.specs.BusSteps.{may_want}
 use Rattle.uac_bus.specs.After.{said_step}
-use Rattle.uac_bus.specs.After as bus_after
 use Rattle.uac_ends.specs.declared.fault.LineFault.{LineFault}
 use Rattle.uac_ends.specs.declared.fault.LineFault.TheVariants as faults
-use Rattle.uac_runner.specs.Machine.{Machine, Step, After, done, refused}
+use Rattle.uac_runner.specs.Machine.{Machine, Step, done, refused}
 
 -- what each text says
 abbrev pub Sayings : Type 0
@@ -39,14 +34,6 @@ abbrev pub lifted : bus.Step → Step BusWorld Said
 lifted (bus.done next lines) = done next lines
 lifted (bus.refused fault) = refused (line_fault fault)
 
-abbrev pub lifted_fault : Option BusFault → Option LineFault
-lifted_fault None = None
-lifted_fault (Some fault) = Some (line_fault fault)
-
--- what lines come to
-abbrev pub lifted_after : bus_after.After → After BusWorld Said
-lifted_after a = record { lines = a.lines; world = a.world; count = a.count; refusal = lifted_fault a.refusal }
-
 -- a script ends after the descriptor's end
 abbrev pub rule_at_end : BusWorld → Option ℕ
 rule_at_end (describing bytes meters) = Some 8
@@ -64,7 +51,3 @@ bus_machine says = record {
   wants = λ text w. wants (says text) w;
   spell = spelling_of;
 }
-
--- what boxed meters show, by what each box shows
-abbrev pub readings_by : {Table : Type 0} {Boxed : Table → Type 0} → (DynBox Table Global Boxed → Reading) → Meters Table Boxed → List Reading
-readings_by reading meters = map reading meters.list.items

@@ -1,12 +1,15 @@
 -- What the driver asks of a machine, for the bus: that meters show the world for which they stand, that no step is refused for want of
 -- memory, and that a line without words does nothing.
-use Rattle.std.specs.Prelude.{◌≡◌, ◌≢◌, ℕ, Bool, true, false, List, [], Option, None, Some, Result, Ok, Err, refl}
+use Rattle.std.specs.Prelude.{◌≡◌, ◌≢◌, ℕ, Bool, true, false, List, [], Option, None, Some, Result, Ok, Err, refl, map}
 use Rattle.std.specs.List.{list_all}
 use Rattle.uac_lines.specs.Words.{is_idle}
 use Rattle.uac_sentence.specs.declared.faults.GrammarFault.{GrammarFault}
 use Rattle.uac_topology_rules.specs.declared.fault.TopologyFault.{TopologyFault}
 use Rattle.uac_mixer.specs.declared.element.Element.{Element}
+use Rattle.std.specs.declared.alloc.Global.{Global}
+use Rattle.std.specs.declared.dyn_box.DynBox.{DynBox}
 use Rattle.uac_units.specs.Hearing.{Reading}
+use Rattle.uac_units.specs.declared.meter_list.Meters.{Meters}
 use Rattle.uac_script.specs.LineParsing.{answer}
 use Rattle.uac_script.specs.Phrase.{Phrase, nothing_line, bytes_line, go_line, control_line, get_line, set_line, show_line, break_line}
 use Rattle.uac_script.specs.Phrase.{append_line, track_line, jack_line, deviate_line, microframes_line, detail_line, report_line}
@@ -21,6 +24,12 @@ use Rattle.uac_ends.specs.declared.fault.LineFault.TheVariants as faults
 use Rattle.uac_runner.specs.Machine.{IsFree}
 use Rattle.uac_runner.specs.Machine as runner
 use Rattle.uac_scripts.specs.BusMachine.{Sayings, bus_machine, lifted}
+
+-- ---- what boxed meters show
+
+-- what boxed meters show, by what each box shows
+abbrev pub readings_by : {Table : Type 0} {Boxed : Table → Type 0} → (DynBox Table Global Boxed → Reading) → Meters Table Boxed → List Reading
+readings_by reading meters = map reading meters.list.items
 
 -- ---- what the meters show is the world's
 

@@ -92,8 +92,8 @@ impl<'a> LineMachine for BusRun<'a> {
     ghost use Rattle.uac_script.specs.LineParsing.{answer};
     ghost use Rattle.uac_rows.specs.BusWorld.{BusWorld, meters_in};
     ghost use Rattle.uac_bus.specs.BusKept.{BusStands};
-    ghost use Rattle.uac_scripts.specs.BusMachine.{bus_machine, readings_by};
-    ghost use Rattle.uac_scripts.specs.BusMachineLaws.{bus_shown, bus_free, bus_idle};
+    ghost use Rattle.uac_scripts.specs.BusMachine.{bus_machine};
+    ghost use Rattle.uac_scripts.specs.BusMachineLaws.{bus_shown, bus_free, bus_idle, readings_by};
 
     type Beside = Meters;
 
