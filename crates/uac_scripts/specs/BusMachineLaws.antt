@@ -1,6 +1,6 @@
 -- What the driver asks of a machine, for the bus: that meters show the world for which they stand, that no step is refused for want of
 -- memory, and that a line without words does nothing.
-use Rattle.std.specs.Prelude.{◌≡◌, ◌≢◌, ℕ, Bool, true, false, List, [], Option, None, Some, Result, Ok, Err, refl, map}
+use Rattle.std.specs.Prelude.{◌≡◌, ◌≢◌, ℕ, Bool, true, false, List, [], ◌∷◌, ◌++◌, length, Option, None, Some, Result, Ok, Err, refl, map}
 use Rattle.std.specs.List.{list_all}
 use Rattle.uac_lines.specs.Words.{is_idle}
 use Rattle.uac_sentence.specs.declared.faults.GrammarFault.{GrammarFault}
@@ -13,9 +13,21 @@ use Rattle.uac_units.specs.declared.meter_list.Meters.{Meters}
 use Rattle.uac_script.specs.LineParsing.{answer}
 use Rattle.uac_script.specs.Phrase.{Phrase, nothing_line, bytes_line, go_line, control_line, get_line, set_line, show_line, break_line}
 use Rattle.uac_script.specs.Phrase.{append_line, track_line, jack_line, deviate_line, microframes_line, detail_line, report_line}
-use Rattle.uac_running.specs.RunningWorld.{RunningWorld}
+use Rattle.uac_running.specs.RunningWorld.{RunningWorld, at_start, with_jack_tone, with_deviation, with_samples_on, with_track}
+use Rattle.uac_running.specs.RunningNames.{are_frames, has_domain, has_jack, has_out, names_stream, natural_of_int}
+use Rattle.uac_running.specs.Events.{microframes}
+use Rattle.uac_running.specs.RunningTransfers.{element_named, read_element, set_element, show_element, transfer}
+use Rattle.uac_running.specs.RunningLines.{ready_line}
+use Rattle.uac_streaming.specs.Telling.{Telling}
+use Rattle.uac_request.specs.Requests.{setup_of}
+use Rattle.uac_mixer.specs.MixerElements.{fits_element}
+use Rattle.uac_transcript.specs.Transcript.{Said}
+use Rattle.uac_sentence.specs.Grammar.{first_fault}
+use Rattle.uac_grammar.specs.Stop.{shown_fault}
+use Rattle.uac_topology.specs.Topology.{first_fault_of}
+use Rattle.uac_configuration.specs.Description.{blocks_of, function_of}
 use Rattle.uac_rows.specs.BusWorld.{BusWorld, Step, describing, running, done, refused, meters_in, step, step_describing, step_running}
-use Rattle.uac_rows.specs.BusWorld.{step_feed, step_go, if_no_fault, if_sound, on_element, unless}
+use Rattle.uac_rows.specs.BusWorld.{step_feed, step_go, step_telling, if_no_fault, if_sound, on_element, silently, tone_of, unless}
 use Rattle.uac_bus.specs.declared.bus.BusStage.{BusStage}
 use Rattle.uac_bus.specs.declared.bus.BusStage.TheVariants as stages
 use Rattle.uac_bus.specs.After.{said_step}
@@ -63,21 +75,28 @@ free_on_element : (o : Option Element) (s : Element → Step) → ((x : Element)
 free_on_element None s free = λ e. cc
 free_on_element (Some x) s free = free x
 
-free_done : (next : BusWorld) (lines : _) → IsFreeStep (done next lines)
+free_done : (next : BusWorld) (lines : List Said) → IsFreeStep (done next lines)
 free_done next lines e = cc
+
+free_telling : (t : Telling RunningWorld) → IsFreeStep (step_telling t)
+free_telling t e = cc
 
 free_feed : (bytes : List ℕ) (meters : List Reading) → IsFreeStep (step_feed bytes meters)
 unfolding step_feed
-free_feed bytes meters = free_unless_faulty _ _ (free_done _ _)
+free_feed bytes meters = free_unless_faulty (shown_fault bytes) (silently (describing bytes meters)) (free_done (describing bytes meters) [])
 
 free_go : (bytes : List ℕ) (meters : List Reading) → IsFreeStep (step_go bytes meters)
 unfolding step_go
-free_go bytes meters = free_unless_faulty _ _ (free_unless_unsound _ _ (free_done _ _))
+free_go bytes meters =
+    let function = function_of (blocks_of bytes) in
+    let gone : Step = done (running (at_start bytes function meters)) (ready_line function ∷ []) in
+    free_unless_faulty (first_fault bytes) (if_sound (first_fault_of (blocks_of bytes)) gone)
+    (free_unless_unsound (first_fault_of (blocks_of bytes)) gone (free_done (running (at_start bytes function meters)) (ready_line function ∷ [])))
 
 free_describing : (bytes : List ℕ) (meters : List Reading) (phrase : Phrase) → IsFreeStep (step_describing bytes meters phrase)
 free_describing bytes meters nothing_line = λ e. cc
-free_describing bytes meters (bytes_line more) = free_feed _ _
-free_describing bytes meters go_line = free_go _ _
+free_describing bytes meters (bytes_line more) = free_feed (bytes ++ more) meters
+free_describing bytes meters go_line = free_go bytes meters
 free_describing bytes meters (control_line setup sent) = λ e. cc
 free_describing bytes meters (get_line name) = λ e. cc
 free_describing bytes meters (set_line name value) = λ e. cc
@@ -91,22 +110,39 @@ free_describing bytes meters (microframes_line count marks) = λ e. cc
 free_describing bytes meters (detail_line level) = λ e. cc
 free_describing bytes meters report_line = λ e. cc
 
+-- a step in a world, unless the condition breaks the rule
+free_unless_done : (b : Bool) (rule : ℕ) (next : BusWorld) → IsFreeStep (unless b rule (silently next))
+free_unless_done b rule next = free_unless b rule (silently next) (free_done next [])
+
 free_running : (r : RunningWorld) (phrase : Phrase) → IsFreeStep (step_running r phrase)
 free_running r nothing_line = λ e. cc
 free_running r (bytes_line more) = λ e. cc
 free_running r go_line = λ e. cc
-free_running r (control_line setup sent) = free_done _ _
-free_running r (get_line name) = free_on_element _ _ (λ x. free_done _ _)
-free_running r (set_line name value) = free_on_element _ _ (λ x. free_unless _ 7 _ (free_done _ _))
-free_running r (show_line name) = free_on_element _ _ (λ x. free_done _ _)
-free_running r (break_line after) = free_done _ _
-free_running r (append_line number samples) = free_unless _ 6 _ (free_unless _ 7 _ (free_done _ _))
-free_running r (track_line number tone) = free_unless _ 6 _ (free_done _ _)
-free_running r (jack_line terminal tone) = free_unless _ 6 _ (free_done _ _)
-free_running r (deviate_line domain ppm) = free_unless _ 6 _ (free_done _ _)
-free_running r (microframes_line count marks) = free_unless _ 6 _ (free_done _ _)
-free_running r (detail_line level) = free_done _ _
-free_running r report_line = free_done _ _
+free_running r (control_line setup sent) = free_telling (transfer (setup_of setup) sent r)
+free_running r (get_line name) =
+    free_on_element (element_named r name) (λ x. step_telling (read_element x r)) (λ x. free_telling (read_element x r))
+free_running r (set_line name value) =
+    free_on_element (element_named r name) (λ x. unless (fits_element x.kind value) 7 (step_telling (set_element x value r)))
+    (λ x. free_unless (fits_element x.kind value) 7 (step_telling (set_element x value r)) (free_telling (set_element x value r)))
+free_running r (show_line name) =
+    free_on_element (element_named r name) (λ x. step_telling (show_element x r)) (λ x. free_telling (show_element x r))
+free_running r (break_line after) = λ e. cc
+free_running r (append_line number samples) =
+    let next : BusWorld = running (with_samples_on (natural_of_int number) samples r) in
+    free_unless (has_out r.device.function (natural_of_int number)) 6
+    (unless (are_frames r.device.function (natural_of_int number) (length samples)) 7 (silently next))
+    (free_unless_done (are_frames r.device.function (natural_of_int number) (length samples)) 7 next)
+free_running r (track_line number tone) =
+    free_unless_done (has_out r.device.function (natural_of_int number)) 6 (running (with_track (natural_of_int number) (tone_of tone) r))
+free_running r (jack_line terminal tone) =
+    free_unless_done (has_jack r (natural_of_int terminal)) 6 (running (with_jack_tone (natural_of_int terminal) (tone_of tone) r))
+free_running r (deviate_line domain ppm) =
+    free_unless_done (has_domain r (natural_of_int domain)) 6 (running (with_deviation (natural_of_int domain) ppm r))
+free_running r (microframes_line count marks) =
+    free_unless (list_all (names_stream r.device.function) marks) 6 (step_telling (microframes marks (natural_of_int count) r))
+    (free_telling (microframes marks (natural_of_int count) r))
+free_running r (detail_line level) = λ e. cc
+free_running r report_line = λ e. cc
 
 free_said : (said : Result Phrase ℕ) (w : BusWorld) → IsFreeStep (said_step said w)
 unfolding step

@@ -1,5 +1,5 @@
 // The bus as a machine that does a script's lines.
-ghost use Rattle.std.specs.Prelude.{◌≡◌, ◌≤◌, List, length, IfOk};
+ghost use Rattle.std.specs.Prelude.{◌≡◌, ◌≤◌, ℕ, List, length, IfOk};
 ghost use Rattle.uac_units.specs.Fitting.{IsFitted};
 ghost use Rattle.uac_units.specs.MeterReadings.{readings};
 ghost use Rattle.uac_script.specs.Lent.{lent_phrase_result, IsLentInRange};
@@ -9,6 +9,7 @@ ghost use Rattle.uac_bus.specs.BusKept.{BusStands};
 ghost use Rattle.uac_runner.specs.LineOutcomes.{DoesLine};
 ghost use Rattle.uac_scripts.specs.BusMachine.{bus_machine, line_fault};
 
+use std::marker::PhantomData;
 use uac_bus::{Bus, BusFault};
 use uac_edges::Sink;
 use uac_ends::LineFault;
@@ -22,6 +23,8 @@ pub struct BusRun<'a> {
     pub bus: &'a mut Bus,
     pub room: &'a mut LineRoom,
     pub rack: &'a Rack,
+    /// Which boxes the rack and the meters hold: what is said below of a box needs the type's name here.
+    pub boxes: PhantomData<(Box<dyn Unit>, Box<dyn Meter>)>,
 }
 
 /// A fault of the bus as that of a line.

@@ -11,6 +11,7 @@ ghost use Rattle.uac_scripts.specs.Surroundings.{surroundings};
 
 use crate::machine::BusRun;
 use std::alloc::Global;
+use std::marker::PhantomData;
 use uac_bus::Bus;
 use uac_edges::{Sink, Source};
 use uac_ends::Status;
@@ -46,6 +47,7 @@ pub fn run_script<S: Source, K: Sink>(
         bus: &mut bus,
         room: &mut room,
         rack,
+        boxes: PhantomData,
     };
     let status = uac_runner::run_script(&mut run, meters, source, sink);
     bus.let_go();

@@ -4,8 +4,8 @@ use Rattle.uac_rows.specs.BusWorld.{start}
 use Rattle.uac_scripts.proofs.BusLemmas.{answers_by_table, fronts_keep_promises}
 use Rattle.uac_scripts.proofs.running.run_script.Goals as goal
 
-pub run_script-requires-clause-fits : goal.run_script-requires-clause-fits
-run_script-requires-clause-fits g c = (c.requires.mixer, c.requires.selector, c.requires.feature, c.requires.effect)
+pub run_script-status-requires-clause-fits : goal.run_script-status-requires-clause-fits
+run_script-status-requires-clause-fits g c = (c.requires.mixer, c.requires.selector, c.requires.feature, c.requires.effect)
 
 pub returns-clause-run : goal.returns-clause-run
 returns-clause-run g c =
