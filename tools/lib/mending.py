@@ -7,8 +7,9 @@ from refusals import association_bytes, grammar_finding
 
 # The cases in which one value alone is right, so that writing it is no guess.
 SURE = ("total", "header-total", "association-codes", "endpoint-count", "wrong-length", "no-length", "version", "control-protocol")
-SURE_WARNINGS = ("association-first", "association-count", "association-subclass", "interface-count", "reserved-bit", "control-setting",
-                 "control-endpoints", "swapped-controls")
+# Of warnings, in this order: what an association counts is known once no stream is hidden.
+SURE_WARNINGS = ("hidden-stream", "association-first", "association-count", "association-subclass", "interface-count", "reserved-bit",
+                 "control-setting", "control-endpoints", "swapped-controls")
 STEPS = 32
 
 
@@ -74,19 +75,26 @@ def step(check, data):
     return in_fields(data, finding) if finding.block is not None and is_sure(finding, data) else (data, [])
 
 
+def careful_step(data):
+    """One warning's thing put right in sound bytes: the bytes, and what changed."""
+    found = [one for one in cautions(cut(data)[0]) if one.case.name in SURE_WARNINGS and None not in one.fields.values()]
+    for finding in sorted(found, key=lambda one: SURE_WARNINGS.index(one.case.name)):
+        whole, done = in_fields(data, finding)
+        if done:
+            return whole, done
+    return data, []
+
+
 def mended(check, data, judge):
-    """The bytes with what can be put right, and what was changed; judge gives the program's last line on bytes."""
+    """The bytes with what can be put right, and what was changed; judge gives the program's last line on bytes. What is sound stays so."""
     changes = []
     for _ in range(STEPS):
-        if not check.startswith("descriptor "):
-            break
-        data, done = step(check, data)
+        is_sound = check.startswith("ok")
+        whole, done = careful_step(data) if is_sound else step(check, data)
         if not done:
-            return data, changes
-        changes += done
-        check = judge(data)
-    for finding in cautions(cut(data)[0]) if check.startswith("ok") else []:
-        if finding.case.name in SURE_WARNINGS and finding.block is not None:
-            data, done = in_fields(data, finding)
-            changes += done
+            break
+        check = judge(whole)
+        if is_sound and not check.startswith("ok"):
+            break
+        data, changes = whole, changes + done
     return data, changes
