@@ -40,9 +40,9 @@ def same_address(blocks):
 
 
 def function_numbers(blocks):
-    """The numbers of the function's interfaces: the control interface's and the streaming ones'."""
-    control = control_block(blocks)
-    return sorted({control["number"]} | {one["number"] for one in interfaces(blocks) if is_streaming(one)})
+    """The numbers of the function's interfaces: the control interface's and the streaming ones', hidden ones too."""
+    streams = [one for one in interfaces(blocks) if is_streaming(one)] + list(hidden(blocks))
+    return sorted({control_block(blocks)["number"]} | {one["number"] for one in streams})
 
 
 def control_block(blocks):
@@ -106,7 +106,9 @@ def control_interface(blocks):
                       write(block, "setting", 0), block, {"setting": 0})
     if block["endpoints"] != count:
         yield Finding("control-endpoints", f"bNumEndpoints of the control interface is {block['endpoints']}, and "
-                      f"{counted(count, 'endpoint')} {'stands' if count == 1 else 'stand'} there", write(block, "endpoints", count), block,
+                      f"{counted(count, 'endpoint') if count else 'none'} {'stand' if count > 1 else 'stands'} there", write(block,
+                                                                                                                             "endpoints",
+                                                                                                                             count), block,
                       {"endpoints": count})
 
 
@@ -124,8 +126,7 @@ def class_endpoints(blocks):
             if is_data and (following is None or following.kind != "class_endpoint"):
                 yield Finding("class-endpoint", f"the data endpoint {block['address']:#04x} of {name_of(setting)}, at {block.place}, has "
                               "no class endpoint (25 01) behind it", f"put 08 25 01 00 00 00 00 00 at {block.place + 7}; its 8 bytes "
-                              "count in "
-                              "wTotalLength", block, {}, at=block.place, wanted="08 25 01 00 00 00 00 00")
+                              "count in wTotalLength", block, {}, at=block.place, wanted="08 25 01 00 00 00 00 00")
 
 
 def formats(blocks):
@@ -140,31 +141,32 @@ def formats(blocks):
         elif general["format_type"] == 1 and "type_one" not in setting:
             yield Finding("no-format", f"{name_of(setting)} says format type 1, and no Type I block (24 02 01) stands behind its General "
                           f"at {general.place}", f"put 06 24 02 01, the bytes of a sample and its bits at {general.place + 16}; its 6 "
-                          "bytes "
-                          "count in wTotalLength", general, {}, at=general.place)
+                          "bytes count in wTotalLength", general, {}, at=general.place)
 
 
-def hidden_streams(blocks):
+def hidden(blocks):
     """Streaming interfaces of another protocol, which no control interface of theirs stands in front of."""
     control = None
     for block in interfaces(blocks):
-        if block["class"] != 1:
-            continue
-        if block["subclass"] == 1:
+        if block["class"] == 1 and block["subclass"] == 1:
             control = block["protocol"]
-        if block["subclass"] == 2 and block["protocol"] not in (0x20, control):
-            version = VERSIONS.get(block["protocol"])
-            yield Finding("hidden-stream", f"interface {block['number']} setting {block['setting']}, at {block.place}, has "
-                          f"bInterfaceProtocol {block['protocol']:#04x}" + (f" (audio {version})" if version else "") + " in a function "
-                          "of version 2.0: it "
-                          "counts as none of its streams", write(block, "protocol", 0x20, "0x20"), block, {"protocol": 0x20})
+        if block["class"] == 1 and block["subclass"] == 2 and block["protocol"] not in (0x20, control):
+            yield block
+
+
+def hidden_streams(blocks):
+    for block in hidden(blocks):
+        version = VERSIONS.get(block["protocol"])
+        yield Finding("hidden-stream", f"interface {block['number']} setting {block['setting']}, at {block.place}, has "
+                      f"bInterfaceProtocol {block['protocol']:#04x}" + (f" (audio {version})" if version else "") + " in a function "
+                      "of version 2.0: it counts as none of its streams", write(block, "protocol", 0x20, "0x20"), block, {"protocol": 0x20})
 
 
 def terminals(blocks):
     by_id = entities_of(blocks)
     links = {one["general"]["link"] for one in settings_of(blocks) if "general" in one}
     for block in by_id.values():
-        if is_usb(block) and block["id"] not in links:
+        if is_usb(block) and block["id"] not in links and not any(hidden(blocks)):
             kind = "a jack, as 0x0301 for a speaker" if block.kind == "output_terminal" else "a jack, as 0x0201 for a microphone"
             yield Finding("unlinked-terminal", f"{entity_name(block)}, at {block.place}, is a terminal of the bus, and no interface links "
                           "to it",

@@ -1,6 +1,7 @@
 """What a tool finds wrong: where, which field, its value, what would be right, and whose rule it is; in words, and as an object of JSON."""
 from descriptor import standard_name
 from rules import CASES
+from terminals import kind_words
 
 ARTICLES = {"a": "an", "e": "an", "i": "an", "o": "an"}
 
@@ -11,12 +12,12 @@ OTHER_TYPES = {1: "device descriptor", 3: "string descriptor", 5: "endpoint", 6:
 
 
 def kind_name(block):
-    """What a block is, as 'feature' or 'block of type 0x30'."""
+    """What a block is, as 'feature unit' or 'block of type 0x30'."""
     if block.kind is None:
         known = OTHER_TYPES.get(block.data[1])
         return f"{known} (type {block.data[1]:#04x})" if known else f"block of type {block.data[1]:#04x}"
     names = {"header": "header", "general": "General", "type_one": "Type I block", "class_endpoint": "class endpoint"}
-    return names.get(block.kind, block.kind.replace("_", " "))
+    return names.get(block.kind) or kind_words(block.kind)
 
 
 def with_article(words):

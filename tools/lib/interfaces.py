@@ -1,6 +1,7 @@
 """What a broken rule of streaming interfaces (U12, U13, and U14 of them) finds: the mistake in words, and what to write."""
 from descriptor import entities_of, is_streaming, settings_of
 from finding import Finding, write
+from old_forms import fits_channels, renewed
 from terminals import entity_name
 from topology import counted, entity_finding, is_usb, list_of
 
@@ -210,8 +211,21 @@ def interface_finding(rule, number, blocks):
                    block, {"number": None})
 
 
+def old_feature(rule, number, blocks):
+    """The finding of a rule that an entity breaks; a feature that breaks U9 may have the form of audio 1.0."""
+    by_id = entities_of(blocks)
+    block = by_id.get(number)
+    if rule != "U9" or block.kind != "feature" or not fits_channels(block, by_id):
+        return entity_finding(rule, number, blocks)
+    fresh = renewed(block, by_id).hex(" ")
+    return Finding("feature-1.0", f"this is the audio 1.0 form of a feature unit: bControlSize {block.data[5]} in byte {block.place + 5}, "
+                   "and then as many bytes for the master and each channel", f"write {fresh}, and count its bytes in the totals: version "
+                   "2.0 has no bControlSize, and 4 bytes for the master and each channel, two bits a control", block, {"length": None},
+                   wanted=fresh)
+
+
 def topology_finding(rule, which, number, blocks):
     """The finding of a broken rule of the topology, by what the program names: an entity, or an interface."""
-    finding = entity_finding(rule, number, blocks) if which == "entity" else interface_finding(rule, number, blocks)
+    finding = old_feature(rule, number, blocks) if which == "entity" else interface_finding(rule, number, blocks)
     finding.rule = rule
     return finding

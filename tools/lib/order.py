@@ -71,7 +71,8 @@ def apart(block, same, seen, later):
                        write(block, "setting", same[-1]["setting"] + 1), block, {"setting": same[-1]["setting"] + 1})
     if seen[-1] is not same[-1]:
         return Finding("settings-order", f"{name} stands apart from setting {setting - 1}: interface {seen[-1]['number']} stands between",
-                       f"put it right behind setting {setting - 1}, at {same[-1].place}, and its blocks", block, {"setting": None})
+                       f"put it right behind the blocks of setting {setting - 1}, which begin at {same[-1].place}", block,
+                       {"setting": None})
     return None
 
 
@@ -153,7 +154,8 @@ def in_stream(block, inner, interface, blocks):
     kinds, last = [one.kind for one in inner], (inner or [interface])[-1]
     name = f"setting {interface['setting']} of interface {interface['number']}"
     if last.data[1] == 0x30 and block.kind in ("class_endpoint", "endpoint"):
-        return Finding("companion", f"a companion of super speed (type 0x30) at {last.place}, in front of {what(block)} at {block.place}",
+        return Finding("companion", f"a companion of super speed (type 0x30) stands at {last.place}, in front of {what(block)} at "
+                       f"{block.place}",
                        "give the descriptors that the device tells at high speed, where an endpoint has no companion", last, {"type": None})
     if block.kind == "class_endpoint" and last.kind != "endpoint":
         return without_endpoint(block, last, blocks)

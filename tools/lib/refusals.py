@@ -4,16 +4,12 @@ Which rule is broken, and where, is the program's answer; here the words are fou
 from controls import CONTROLS, words_of
 from descriptor import ENTITY_KINDS, FIXED_LENGTHS, LAYOUTS, cut, entities_of, is_of_audio, standard_name
 from finding import Finding, kind_name, with_article, write
+from old_forms import difference, renewed
 from order import order_finding
 from terminals import entity_name
 from topology import channels_of, counted
 
 VERSIONS = {0x00: "1.0", 0x20: "2.0", 0x30: "3.0"}
-# The lengths that a block has in audio 1.0, and what differs there.
-OLD_LENGTHS = {"input_terminal": (12, "no bCSourceID, no bmControls, and bmChannelConfig in 2 bytes"),
-               "output_terminal": (9, "no bCSourceID and no bmControls"), "header": (None, "the streaming interfaces' numbers at its end"),
-               "general": (7, "a delay and a format's number"), "class_endpoint": (7, "no bmControls"),
-               "endpoint": (9, "bRefresh and bSynchAddress at its end"), "type_one": (None, "channels and a list of rates")}
 # The lengths that count what a block lists.
 COUNTED_LENGTHS = {"mixer": "13, a byte for each pin, and the bytes of its bits", "selector": "7 and a byte for each pin",
                    "clock_selector": "7 and a byte for each pin", "feature": "6 + 4 × words (10, 14, 18 ..)",
@@ -70,17 +66,15 @@ def begins_block(data, place):
     return data[place] in known.get(data[place + 1], ())
 
 
-def old_form(block):
-    """The difference of the block's form in audio 1.0, None where it hasn't that form."""
-    size, data = len(block.data), block.data
-    old, differs = OLD_LENGTHS.get(block.kind, (None, None))
-    if block.kind == "feature" and size > 6 and data[5] in (1, 2, 4) and (size - 7) % data[5] == 0:
-        return "bControlSize, and then that many bytes for each channel"
-    if block.kind == "header" and size == 8 + (data[7] if size > 7 else -1):
-        return differs
-    if block.kind == "type_one" and size > 7 and size == 8 + 3 * (data[7] or 2):
-        return differs
-    return differs if old == size else None
+def old_form(block, form, by_id):
+    """A block in the form of audio 1.0, and the same in version 2.0 where that is known."""
+    wanted, fresh, what = FIXED_LENGTHS.get(block.kind), renewed(block, by_id), kind_name(block)
+    length = f"{wanted} bytes" if wanted else f"of {COUNTED_LENGTHS[block.kind]}"
+    advice = f"in version 2.0 it has {length}: {layout_words(block)}"
+    if fresh is not None:
+        advice = f"write {fresh.hex(' ')}, and count its bytes in the totals: {advice}"
+    return Finding("audio-1.0", f"this is the audio 1.0 form of {with_article(what)}: {len(block.data)} bytes, with {form}", advice, block,
+                   {"length": None}, wanted=fresh.hex(" ") if fresh else wanted)
 
 
 def wrong_length(block, data):
@@ -89,15 +83,11 @@ def wrong_length(block, data):
     if block.kind is None:
         return Finding("no-subtype", f"the class block at {block.place} has {size} bytes, and a subtype stands third in one",
                        "give the whole block", block, {"length": None})
-    wanted = FIXED_LENGTHS.get(block.kind)
-    form = old_form(block)
-    what = kind_name(block)
+    wanted, form, what, by_id = FIXED_LENGTHS.get(block.kind), difference(block), kind_name(block), entities_of(cut(data)[0])
     if form:
-        right = f"{wanted} bytes" if wanted else COUNTED_LENGTHS[block.kind]
-        return Finding("audio-1.0", f"this is the audio 1.0 form of {with_article(what)}: {size} bytes, with {form}",
-                       f"in version 2.0 its length is {right}: {layout_words(block)}", block, {"length": wanted})
+        return old_form(block, form, by_id)
     if wanted is None:
-        return counted_length(block, what, entities_of(cut(data)[0]))
+        return counted_length(block, what, by_id)
     text = f"bLength of the {what} at {block.place} is {size}, and {with_article(what)} has {wanted}"
     if begins_block(data, block.place + wanted) and not begins_block(data, block.place + size):
         return Finding("wrong-length", f"{text}: the next block begins at {block.place + wanted}", write(block, "length", wanted), block,
@@ -309,12 +299,13 @@ def without_association(place, data):
         first = audio_interfaces(blocks, 1)[0]
         return Finding("other-version", f"the audio function is of version {named_versions}, and version 2.0 alone is taken",
                        "give the configuration in which the device has its function of version 2.0, where it has one", first,
-                       {"protocol": 0x20})
+                       {"protocol": None})
+    first = next((one for one in blocks if one.kind == "interface"), None)
     classes = sorted({one["class"] for one in blocks if one.kind == "interface"})
     what = "has interfaces of " + ("class " if len(classes) == 1 else "classes ") + ", ".join(f"{one:#04x}" for one in classes) \
         if classes else "has no interface"
     return Finding("no-audio", f"no audio function is here: the configuration {what}, and an audio interface has class 0x01",
-                   "give the configuration of the audio device", before[-1] if before else None, at=place)
+                   "give the configuration of the audio device", first, {"class": None} if first else {}, wanted=1)
 
 
 def association_bytes(block, blocks):
@@ -376,7 +367,7 @@ def unknown_unit(block):
     subtype = block.data[2]
     if block.data[1] == 0x24 and subtype in UNITS_LEFT_OUT:
         return Finding("unit-kind", f"{UNITS_LEFT_OUT[subtype]} (subtype {subtype:#04x}) stands at {block.place}, and none is taken here",
-                       "nothing is wrong with it by the standard; to try the rest here, leave it out and link its reader to its source",
+                       "nothing is wrong with it by the standard; to try the rest here, leave it out and have who names it name its source",
                        block, {"subtype": None})
     return Finding("unknown-kind", f"the class block at {block.place} has type {block.data[1]:#04x} and subtype {subtype:#04x}, "
                    "which no entity has", "write the subtype of its kind: 2 to 13", block, {"subtype": None})

@@ -168,7 +168,7 @@ WARNED = (
     ("packet-size", "a packet's size that its additional transactions don't allow", WARNING, "USB 2.0, 9.6.6"),
     ("feedback-size", "a feedback endpoint of fewer than 4 bytes", WARNING, "USB 2.0, 5.12.4.2"),
     ("fixed-writable", "a fixed clock whose frequency a host may set", WARNING, "Audio Class 2.0, 4.7.2.1"),
-    ("speed", "a device of another speed than high speed", WARNING, "a file `speed` beside the descriptor says so"),
+    ("speed", "a device of another speed than high speed", WARNING, "the file speed beside it"),
     ("cannot-run", "a stream that no rate can run here", LIMIT, "docs/STREAMS.md has what can run"),
     ("super-speed", "a companion block of super speed", LIMIT, "judged as at high speed"),
 )

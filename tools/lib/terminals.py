@@ -33,7 +33,12 @@ def detail_of(block):
     return CLOCK_TYPES[block["attributes"] & 3] if block.kind == "clock_source" else "-"
 
 
+def kind_words(kind):
+    """A kind of an entity in words, as 'feature unit'."""
+    return f"{kind} unit" if kind in ("mixer", "selector", "feature", "effect") else kind.replace("_", " ")
+
+
 def entity_name(block):
     """An entity in words, as 'output terminal 4 (speaker)'."""
     detail = f" ({type_name(block['terminal_type'])})" if block["terminal_type"] is not None else ""
-    return f"{block.kind.replace('_', ' ')} {block['id']}{detail}"
+    return f"{kind_words(block.kind)} {block['id']}{detail}"

@@ -3,7 +3,7 @@
 Which rule is broken by whom is the program's answer; here the words are found for it. Rules of lesser number hold by then."""
 from descriptor import ENTITY_KINDS, LOCATIONS, entities_of
 from finding import Finding, write
-from terminals import USB_STREAMING, entity_name
+from terminals import USB_STREAMING, entity_name, kind_words
 
 CLOCKS = ("clock_source", "clock_selector", "clock_multiplier")
 
@@ -141,11 +141,11 @@ def advise_clock(block, field, by_id):
 
 def wrong_id(rule, block, blocks):
     right = free_id(blocks)
-    name = f"the {block.kind.replace('_', ' ')} at {block.place}"
+    name = f"the {kind_words(block.kind)} at {block.place}"
     if rule == "U1":
         return Finding("id-0", f"{name} has the id 0, which no entity may have", write(block, "id", right), block, {"id": right})
     first = next(one for one in blocks if one.kind in ENTITY_KINDS and one["id"] == block["id"])
-    return Finding("id-twice", f"{name} has the id {block['id']}, and the {first.kind.replace('_', ' ')} at {first.place} has it already",
+    return Finding("id-twice", f"{name} has the id {block['id']}, and the {kind_words(first.kind)} at {first.place} has it already",
                    write(block, "id", right), block, {"id": right})
 
 
@@ -211,14 +211,8 @@ def wrong_cluster(block):
                    wanted=min(count, 32))
 
 
-def is_old_feature(block, channels):
-    """Whether a feature unit has the form of audio 1.0: the size of a control word, then one for the master and each channel."""
-    size = block.data[5] if len(block.data) > 6 else 0
-    return size in (1, 2, 4) and len(block.data) == 7 + (channels + 1) * size
-
-
 def wrong_size(block, by_id):
-    """U9: a mixer's bitmap, a feature's or an effect's words."""
+    """U9: a mixer's bitmap, a feature's or an effect's words. Those of a feature in the form of audio 1.0 are told by old_forms.py."""
     channels, name = channels_of(block, by_id), entity_name(block)
     if block.kind == "mixer":
         inputs = inputs_of(block, by_id)
@@ -230,12 +224,6 @@ def wrong_size(block, by_id):
                        f"give bmMixerControls {counted(right, 'byte')}, and {write(block, 'length', wanted)}", block, {"length": wanted})
     first = 8 if block.kind == "effect" else 6
     wanted, words = first + 4 * (channels + 1), len(block["words"])
-    if block.kind == "feature" and is_old_feature(block, channels):
-        return Finding("feature-1.0", f"this is the audio 1.0 form of a feature unit: bControlSize {block.data[5]} in byte "
-                       f"{block.place + 5}, and then as many bytes for the master and each channel", "version 2.0 has no bControlSize, "
-                       "and 4 bytes for the "
-                       f"master and for each of the {counted(channels, 'channel')}, two bits a control: bLength {wanted}", block,
-                       {"length": wanted})
     more = f" or {channels + 2}" if block.kind == "effect" else ""
     return Finding("feature-words" if block.kind == "feature" else "effect-words",
                    f"{name} has {counted(channels, 'channel')}, so {channels + 1}{more} control words are wanted, the first for the "
