@@ -78,8 +78,8 @@ def of_audio_association(block, numbers):
         yield Finding("association-count", f"the function's interfaces {list_of(numbers)} don't follow one another, and an association "
                       "names those that do", "number them in turn", block, {"count": None})
     if block["subclass"] != 0:
-        yield Finding("association-subclass", f"bFunctionSubClass of the audio association is {block['subclass']:#04x}, and it has 0x00 "
-                      "there",
+        yield Finding("association-subclass", f"bFunctionSubClass of the audio association is {block['subclass']:#04x}, and an audio "
+                      "association has 0x00 there",
                       write(block, "subclass", 0, "0x00"), block, {"subclass": 0})
 
 

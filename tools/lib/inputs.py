@@ -4,7 +4,6 @@ from descriptor import cut, is_of_audio
 from refusals import association_bytes
 from tool import Refused
 
-SHOWN = re.compile(r"^(?:0[xX])?([0-9a-fA-F]+)[:\s]")
 
 
 def of_c(text):
@@ -49,9 +48,18 @@ def addressed(lines):
     return bytes(data)
 
 
+def is_dump(lines):
+    """Whether lines begin with addresses that rise from 0."""
+    rows = [re.match(r"^([0-9a-fA-F]{6,8}):?(\s|$)", line) for line in lines if line != "*"]
+    places = [int(row[1], 16) for row in rows if row is not None]
+    return len(places) == len(rows) > 1 and places[0] == 0 and all(one < other for one, other in zip(places, places[1:]))
+
+
 def of_row(text, is_xxd):
     """The bytes of one line behind its address: up to the characters that xxd and hexdump -C print."""
-    text = re.split(r"\s{2,}\S", text)[0] if is_xxd else re.sub(r"\s\|.*$", "", text)
+    text = re.split(r"\s{2,}\S", text)[0] if is_xxd else re.sub(r"\s(\|.*|>.*<)$", "", text)
+    if not is_xxd and any(len(word) != 2 for word in text.split()):
+        raise ValueError("words of more than a byte")
     return bytes.fromhex(re.sub(r"\s", "", text))
 
 
@@ -75,6 +83,9 @@ def bytes_of_text(data):
         raise Refused("this is no text: leave --text out for bytes")
     lines = [line.rstrip() for line in text.splitlines() if line.strip()]
     dump = addressed(lines)
+    if dump is None and is_dump(lines):
+        raise Refused("the text is a dump that isn't read, as of words of two bytes, or with lines left out: give it as xxd, od -tx1 or "
+                      "hexdump -C print it")
     if dump is None and ("{" in text or re.search(r"\b0[xX][0-9a-fA-F]{1,2}\b", text) or re.search(r"^\s*\d+\s*,", text)):
         dump = of_c(text)
     if dump is None:

@@ -130,9 +130,14 @@ def advise_source(block, field, by_id, blocks):
 
 
 def advise_clock(block, field, by_id):
+    """What to write for a clock, and the one value that would be right; where no clock is there, one to put in front, by the id named."""
     clocks = [one for one in by_id.values() if one.kind in CLOCKS and one is not block]
     if not clocks:
-        return "put a clock source in front (08 24 0a, an id, 03, 07, 00, 00), and name its id", None
+        named, first = block.value(field), next(iter(by_id.values()))
+        name = named if named and named not in by_id else next(one for one in range(1, 256) if one not in by_id)
+        fresh = bytes((8, 0x24, 10, name, 3, 7, 0, 0)).hex(" ")
+        return f"put a clock source, {fresh}, at {first.place}; its 8 bytes count in both totals" + (
+            "" if name == named else f", and {write(block, field, name)}"), name if name != named else None
     best = next((one for one in clocks if one.kind == "clock_source"), clocks[0])
     return f"{write(block, field, best['id'])}, the id of {entity_name(best)}", best["id"]
 
@@ -171,7 +176,8 @@ def wrong_clock(block, by_id):
     advice, right = advise_clock(block, field, by_id)
     why = f"no entity has the id {clock}" if clock not in by_id else f"that is {entity_name(by_id[clock])}, no clock"
     role = "clock" if block.kind not in CLOCKS else "source"
-    return Finding("clock-missing", f"{entity_name(block)} names {clock} as its {role}, and {why}", advice, block, {field: right})
+    return Finding("clock-missing", f"{entity_name(block)} names {clock} as its {role}, and {why}", advice, block, {field: right},
+                   wanted=right if right is not None else f"a clock source of id {clock}")
 
 
 def wrong_loop(rule, block, by_id, blocks):
