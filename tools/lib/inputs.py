@@ -78,7 +78,7 @@ def of_hex(text):
 def bytes_of_text(data):
     """The bytes of a text: hex, xxd, od -tx1, hexdump -C, or a C array."""
     try:
-        text = data.decode("utf-8")
+        text = data.decode("utf-8-sig")
     except UnicodeDecodeError:
         raise Refused("this is no text: leave --text out for bytes")
     lines = [line.rstrip() for line in text.splitlines() if line.strip()]

@@ -3,7 +3,7 @@ from cautions import cautions
 from descriptor import cut, standard_name
 from finding import places
 from interfaces import topology_finding
-from refusals import association_bytes, grammar_finding
+from refusals import association_bytes, grammar_finding, is_cut_off
 
 # The cases in which one value alone is right, so that writing it is no guess.
 SURE = ("total", "header-total", "association-codes", "endpoint-count", "wrong-length", "no-length", "version", "control-protocol")
@@ -20,8 +20,7 @@ def put(data, block, field, value):
     if block.data[at:end] == piece:
         return None
     at, end = block.place + at, block.place + end
-    before = int.from_bytes(data[at:end], "little")
-    changed = f"{standard_name(block.kind, field)} at {places(at, end)}, from {before} to {value}: {piece.hex(' ')}"
+    changed = f"{standard_name(block.kind, field)}, {places(at, end)}: {data[at:end].hex(' ')} became {piece.hex(' ')}"
     return data[:at] + piece + data[end:], changed
 
 
@@ -57,9 +56,7 @@ def is_sure(finding, data):
         return False
     if finding.case.name == "endpoint-count":
         return finding.block["endpoints"] < finding.fields["endpoints"]
-    if finding.case.name == "total":
-        return finding.text.count("swapped") > 0 or finding.fields["total"] != finding.block["total"]
-    return True
+    return finding.case.name != "total" or not is_cut_off(finding.block, cut(data)[0])
 
 
 def step(check, data):
@@ -71,7 +68,9 @@ def step(check, data):
         return with_association(data, finding)
     if finding.case.name == "no-length" and finding.wanted is not None:
         at = finding.at
-        return data[:at] + bytes([finding.wanted]) + data[at + 1:], [f"bLength at byte {at}, from {data[at]} to {finding.wanted}"]
+        return data[:at] + bytes([finding.wanted]) + data[at + 1:], [f"bLength, byte {at}: {data[at]:02x} became {finding.wanted:02x}"]
+    if finding.case.name == "padding":
+        return data[:finding.at], [f"{len(data) - finding.at} zero bytes at {finding.at} are left out"]
     return in_fields(data, finding) if finding.block is not None and is_sure(finding, data) else (data, [])
 
 

@@ -2,7 +2,7 @@
 
 Which rule is broken, and where, is the program's answer; here the words are found for it. docs/DESCRIPTORS.md has the rules."""
 from controls import CONTROLS, words_of
-from descriptor import ENTITY_KINDS, FIXED_LENGTHS, LAYOUTS, cut, entities_of, is_of_audio, standard_name
+from descriptor import ENTITY_KINDS, FIXED_LENGTHS, LAYOUTS, cut, entities_of, is_of_audio, kind_of, standard_name
 from finding import Finding, kind_name, with_article, write
 from old_forms import difference, renewed
 from order import order_finding
@@ -36,21 +36,44 @@ def cut_short(place, data):
     if is_text(data):
         return Finding("text", "this is text, not bytes", "give it with --text, which reads hex, xxd, od -tx1, hexdump -C and a C array")
     left = len(data) - place
+    blocks, _ = cut(data)
+    owner = next((one for one in blocks if one.kind == "configuration"), None)
+    short = owner is not None and owner.place + owner["total"] > len(data)
+    more = f"; wTotalLength says {owner['total']}, and {len(data) - owner.place} are there" if short else ""
     if left == 0:
         return Finding("no-configuration", "the input ends before its configuration (type 0x02)",
                        "give the configuration descriptor too, as a device's folder of sysfs has it in the file 'descriptors'")
     if left == 1:
-        return Finding("cut", f"one byte alone is left at {place}", "leave it out, or give the whole block", at=place)
-    return Finding("cut", f"{left} bytes are left at {place}, and bLength says {data[place]} there",
-                   "give the whole block, or write the length that it has", at=place, wanted=left)
+        return Finding("cut", f"one byte alone is left at {place}{more}", "give the whole block" if short else "leave it out", at=place,
+                       wanted=0 if not short else None)
+    return Finding("cut", f"{left} bytes are left at {place}, and bLength says {data[place]} there{more}",
+                   "give the whole block" if short else f"give the whole block, or write {left} in byte {place}", at=place, wanted=left)
+
+
+def context_at(place, blocks):
+    """How a block at a place is read: as one of the control interface, of a stream, or of a foreign part."""
+    last = next((one for one in reversed(blocks) if one.kind == "interface" and one.place < place), None)
+    if last is None:
+        return None
+    return {(1, 1, 0x20): "control", (1, 2, 0x20): "stream"}.get((last["class"], last["subclass"], last["protocol"]), "foreign")
+
+
+def likely_length(place, data):
+    """The length of the block at a place by its type and subtype, where the next block begins there; None where that isn't known."""
+    blocks, _ = cut(data)
+    kind = kind_of(bytes((255,)) + data[place + 1:place + 8], context_at(place, blocks))
+    if kind in FIXED_LENGTHS:
+        return FIXED_LENGTHS[kind] if begins_block(data, place + FIXED_LENGTHS[kind]) else None
+    able = [length for length in range(3, 64) if begins_block(data, place + length)]
+    return able[0] if kind and able else None
 
 
 def without_length(place, data):
-    rest, least = data[place:], None
-    for length in sorted(set(FIXED_LENGTHS.values())):
-        if data[place + 1] in (0x24, 0x25, 2, 4, 5, 11) and begins_block(data, place + length):
-            least = length
-            break
+    rest, least = data[place:], likely_length(place, data)
+    owner = next((one for one in cut(data)[0] if one.kind == "configuration"), None)
+    if owner is not None and place >= owner.place + owner["total"] and not any(rest):
+        return Finding("padding", f"{counted(len(rest), 'zero byte')} stand behind the configuration, whose total ends at {place}",
+                       "leave them out", at=place, wanted=0)
     advice = f"write {least} in byte {place}: then the next block begins at {place + least}" if least else \
         "write the number of bytes of the block, which counts its own length and type"
     return Finding("no-length", f"bLength is {rest[0]} at {place}, so no block can follow", advice, at=place, wanted=least)
@@ -246,7 +269,7 @@ def wrong_total(place, data):
             return Finding("behind-total", f"another configuration stands behind the first, at {limit}",
                            "give one configuration alone: the bytes from there on left out", owner, {"total": None}, at=limit)
         if header is None or block is not None or end != limit:
-            return configuration_total(owner, block, end)
+            return configuration_total(owner, block, end, blocks)
     if block is not None and block.kind == "header" and block is not header:
         return Finding("second-header", f"a second header stands at {place}; the first, at {header.place}, counts all entities",
                        f"leave it out: {len(block.data)} bytes less in wTotalLength of the configuration", block, {"subtype": None},
@@ -254,13 +277,24 @@ def wrong_total(place, data):
     return header_total(header, block, blocks)
 
 
-def configuration_total(owner, block, end):
+def is_cut_off(owner, blocks):
+    """Whether the bytes end before the total, and before all interfaces that the configuration counts."""
+    end = blocks[-1].place + len(blocks[-1].data)
+    return owner.place + owner["total"] > end and len({one["number"] for one in blocks if one.kind == "interface"}) < owner["interfaces"]
+
+
+def configuration_total(owner, block, end, blocks):
     real = end - owner.place
     text = total_text(owner, owner["total"], real, "the blocks end at")
-    if block is not None and swapped(owner["total"]) != real:
+    missing = f"give the {counted(owner['total'] - real, 'byte')} missing at the end"
+    if is_cut_off(owner, blocks):
+        there = len({one["number"] for one in blocks if one.kind == "interface"})
+        return Finding("total", f"{text}; bNumInterfaces says {owner['interfaces']}, and {there} are there: the input looks cut off", missing,
+                       owner, {"total": None}, wanted=owner["total"])
+    is_swapped = swapped(owner["total"]) == real
+    if block is not None and not is_swapped:
         text += f"; {named(block)} is the first that ends past it"
-    advice = write(owner, "total", real) + ("" if block is not None or swapped(owner["total"]) == real
-                                            else f", or give the {counted(owner['total'] - real, 'byte')} missing at the end")
+    advice = write(owner, "total", real) + ("" if block is not None or is_swapped else f", or {missing}")
     return Finding("total", text, advice, owner, {"total": real})
 
 

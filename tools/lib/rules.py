@@ -64,6 +64,7 @@ REFUSED = (
     ("cut", "G1", "the input ends within a block", STANDARD, "USB 2.0, 9.5"),
     ("no-configuration", "G1", "no configuration is there", STANDARD, "USB 2.0, 9.6.3"),
     ("no-length", "G2", "a length of 0 or 1", STANDARD, "USB 2.0, 9.5"),
+    ("padding", "G2", "zeros behind the configuration's total", LIMIT, "nothing is taken behind the total"),
     ("audio-1.0", "G3", "a block in the form of audio 1.0", STANDARD, "Audio Class 2.0, 4.7.2, 4.9 and 4.10"),
     ("too-short", "G3", "a block shorter than its layout", STANDARD, "USB 2.0, 9.5"),
     ("wrong-length", "G3", "a length that isn't the block's: the next block begins elsewhere", STANDARD, "USB 2.0, 9.5"),
