@@ -92,6 +92,10 @@ def in_control(block, inner, interface, blocks):
     if header is None and (block is None or block.kind != "header"):
         rest = "nothing stands" if block is None else f"{what(block)} stands"
         at = interface.place + 9
+        later = next((one for one in blocks if one.kind == "header" and one.place > at), None)
+        if later is not None and block is not None:
+            return Finding("no-header", f"the header, at {later.place}, stands behind {what(block)} at {block.place}; it is the first of "
+                           "its interface", f"put the header at {at}", block, {"subtype": 1} if block.data[1] == 0x24 else {"type": 0x24})
         fresh = (bytes((9, 0x24, 1, 0, 2, 0)) + (9 + entity_bytes(at, blocks)).to_bytes(2, "little") + bytes(1)).hex(" ")
         return Finding("no-header", f"the control interface at {interface.place} has no header: {rest} right behind it",
                        f"put {fresh} at {at}; its 9 bytes count in wTotalLength of the configuration", block or interface, {}, at=at,
@@ -108,7 +112,7 @@ def in_control(block, inner, interface, blocks):
 
 def plain(block, last):
     """What has no sentence of its own."""
-    return Finding("order", f"{what(block)} stands at {block.place}, behind {what(last)} at {last.place}, where none is taken",
+    return Finding("order", f"{what(block)} stands at {block.place}, behind {what(last)} at {last.place}, where it isn't taken",
                    "docs/DESCRIPTORS.md has the order; put it where that has it, or leave it out", block, {"type": None}, at=block.place)
 
 
@@ -127,8 +131,15 @@ def behind_general(block, inner, kinds):
     return plain(block, last)
 
 
-def without_endpoint(block, last, blocks):
+def without_endpoint(block, inner, last, blocks):
     """A class endpoint that isn't right behind an endpoint."""
+    if last.kind == "class_endpoint":
+        return Finding("block-twice", f"a second class endpoint stands at {block.place}; the first is at {last.place}", "leave one of them "
+                       "out", block, {"subtype": None})
+    endpoint = next((one for one in reversed(inner) if one.kind == "endpoint"), None)
+    if endpoint is not None:
+        return Finding("order", f"the class endpoint at {block.place} isn't right behind its endpoint at {endpoint.place}: {what(last)} "
+                       f"stands between, at {last.place}", f"put it at {endpoint.place + len(endpoint.data)}", block, {"type": None})
     following = next((one for one in blocks if one.place > block.place), None)
     if following is not None and following.kind == "endpoint":
         advice = f"put the endpoint at {following.place} in front of it"
@@ -136,6 +147,16 @@ def without_endpoint(block, last, blocks):
         advice = "put it right behind its endpoint (type 0x05)"
     return Finding("class-first", f"a class endpoint (25 01) stands at {block.place}, behind {what(last)} and in front of its endpoint",
                    advice, block, {"type": None}, at=block.place)
+
+
+def general_behind(block, blocks):
+    """The General of a setting that stands behind this block of it, None where none does."""
+    for one in (one for one in blocks if one.place > block.place):
+        if one.kind in ("interface", "association"):
+            return None
+        if one.kind == "general":
+            return one
+    return None
 
 
 def fresh_general(interface, blocks):
@@ -158,8 +179,15 @@ def in_stream(block, inner, interface, blocks):
                        f"{block.place}",
                        "give the descriptors that the device tells at high speed, where an endpoint has no companion", last, {"type": None})
     if block.kind == "class_endpoint" and last.kind != "endpoint":
-        return without_endpoint(block, last, blocks)
+        return without_endpoint(block, inner, last, blocks)
     if "general" not in kinds and (block.data[1] == 0x24 or block.kind == "endpoint"):
+        if interface["setting"] == 0 and block.kind == "endpoint":
+            return Finding("setting-0-general", f"{name} has an endpoint at {block.place}, and setting 0 has none, since it takes "
+                           "nothing of the bus", "leave it out, or put what streams into setting 1", block, {"address": None})
+        later = general_behind(block, blocks)
+        if later is not None:
+            return Finding("order", f"the General of {name}, at {later.place}, stands behind {what(block)} at {block.place}",
+                           f"put the General at {block.place}", block, {"subtype": None} if block.data[1] == 0x24 else {"type": None})
         fresh = fresh_general(interface, blocks)
         return Finding("no-general", f"{name} has no General (24 01): {what(block)} stands at {block.place}, right behind its interface",
                        f"put {fresh or '10 24 01 and its 13 bytes'} at {block.place}; its 16 bytes count in wTotalLength", block, {},

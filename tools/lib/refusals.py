@@ -289,8 +289,8 @@ def configuration_total(owner, block, end, blocks):
     missing = f"give the {counted(owner['total'] - real, 'byte')} missing at the end"
     if is_cut_off(owner, blocks):
         there = len({one["number"] for one in blocks if one.kind == "interface"})
-        return Finding("total", f"{text}; bNumInterfaces says {owner['interfaces']}, and {there} are there: the input looks cut off", missing,
-                       owner, {"total": None}, wanted=owner["total"])
+        return Finding("total", f"{text}; bNumInterfaces says {owner['interfaces']}, and {there} are there: the input looks cut off",
+                       missing, owner, {"total": None})
     is_swapped = swapped(owner["total"]) == real
     if block is not None and not is_swapped:
         text += f"; {named(block)} is the first that ends past it"
@@ -298,9 +298,21 @@ def configuration_total(owner, block, end, blocks):
     return Finding("total", text, advice, owner, {"total": real})
 
 
+def block_between(parts, blocks):
+    """The block that ends the list of entities, where more entities stand behind it in the control interface; else None."""
+    rest = blocks[blocks.index(parts[-1]) + 1:]
+    end = next((at for at, one in enumerate(rest) if one.kind in ("interface", "association")), len(rest))
+    return rest[0] if any(one.kind in ENTITY_KINDS for one in rest[1:end]) else None
+
+
 def header_total(header, block, blocks):
     parts = entity_list(blocks, header)
     real = sum(len(one.data) for one in parts)
+    between = block_between(parts, blocks)
+    if between is not None:
+        return Finding("list-broken", f"{with_article(kind_name(between))} stands at {between.place} among the entities: the list that the "
+                       f"header counts ends there, after {real} bytes, and its wTotalLength says {header['total']}",
+                       "put it behind the last entity", between, {"type": None})
     text = total_text(header, header["total"], real, "the header and the entities behind it have")
     if block is not None and header["total"] < real - len(header.data):
         text += f"; {named(block)} is the first that ends past it"
@@ -390,9 +402,10 @@ def behind_association(last, block, blocks, end):
                        "give the control interface too", last, at=end)
     codes = f"class {block['class']:#04x}, subclass {block['subclass']:#04x}" if is_interface else ""
     what = f"the interface at {block.place} ({codes})" if is_interface else named(block)
-    return Finding("control-not-first", f"{what} stands right behind the audio association, where the control interface has its place",
+    return Finding("control-not-first" if is_interface else "order",
+                   f"{what} stands right behind the audio association, where the control interface has its place",
                    f"put the control interface (class 1, subclass 1, protocol 0x20) right behind the association at {last.place}", block,
-                   {"subclass": 1} if is_interface else {}, at=block.place)
+                   {"subclass": 1} if is_interface else {"type": None}, at=block.place)
 
 
 # ---- the other rules
