@@ -50,12 +50,13 @@ def sentence(text):
 
 class Finding:
     """A case of rules.py in a descriptor: the text says what was done wrong, the way what to write. Fields are of the block, each with
-    the value that would be right (None where there is no one such value)."""
+    the value that would be right (None where there is no one such value). Where no block could be cut, length is the field's name and
+    value."""
 
-    def __init__(self, case, text, way, block=None, fields=(), wanted=None, at=None, rule=None):
+    def __init__(self, case, text, way, block=None, fields=(), wanted=None, at=None, rule=None, length=None):
         self.case, self.text, self.way, self.block, self.fields = CASES[case], text, way, block, dict(fields)
         self.wanted = wanted if wanted is not None else next((value for value in self.fields.values() if value is not None), None)
-        self.at, self.rule = at, rule or CASES[case].rule
+        self.at, self.rule, self.no_block = at, rule or CASES[case].rule, length
 
     @property
     def kind(self):
@@ -75,17 +76,19 @@ class Finding:
     @property
     def length(self):
         if self.block is None:
-            return 0
+            return 1 if self.no_block else 0
         span = self.block.span(self.field) if self.field else None
         return span[1] - span[0] if span else len(self.block.data)
 
     @property
     def value(self):
+        if self.no_block:
+            return self.no_block[1]
         return self.block.value(self.field) if self.block is not None and self.field else None
 
     def as_json(self):
         """The object of this finding, as docs/TOOLS.md has it."""
-        name = standard_name(self.block.kind, self.field) if self.field else None
+        name = standard_name(self.block.kind, self.field) if self.field else self.no_block[0] if self.no_block else None
         return {"rule": self.rule, "case": self.case.name, "kind": self.kind, "place": self.place, "length": self.length, "field": name,
                 "value": self.value, "wanted": self.wanted, "text": sentence(self.text), "advice": sentence(self.way),
                 "said": self.case.said}

@@ -47,7 +47,8 @@ def cut_short(place, data):
         return Finding("cut", f"one byte alone is left at {place}{more}", "give the whole block" if short else "leave it out", at=place,
                        wanted=0 if not short else None)
     return Finding("cut", f"{left} bytes are left at {place}, and bLength says {data[place]} there{more}",
-                   "give the whole block" if short else f"give the whole block, or write {left} in byte {place}", at=place, wanted=left)
+                   "give the whole block" if short else f"give the whole block, or write {left} in byte {place}", at=place,
+                   wanted=None if short else left, length=("bLength", data[place]))
 
 
 def context_at(place, blocks):
@@ -76,7 +77,8 @@ def without_length(place, data):
                        "leave them out", at=place, wanted=0)
     advice = f"write {least} in byte {place}: then the next block begins at {place + least}" if least else \
         "write the number of bytes of the block, which counts its own length and type"
-    return Finding("no-length", f"bLength is {rest[0]} at {place}, so no block can follow", advice, at=place, wanted=least)
+    return Finding("no-length", f"bLength is {rest[0]} at {place}, so no block can follow", advice, at=place, wanted=least,
+                   length=("bLength", rest[0]))
 
 
 def begins_block(data, place):
@@ -402,7 +404,7 @@ def behind_association(last, block, blocks, end):
                        "give the control interface too", last, at=end)
     codes = f"class {block['class']:#04x}, subclass {block['subclass']:#04x}" if is_interface else ""
     what = f"the interface at {block.place} ({codes})" if is_interface else named(block)
-    return Finding("control-not-first" if is_interface else "order",
+    return Finding("control-not-first" if is_interface else "behind-association",
                    f"{what} stands right behind the audio association, where the control interface has its place",
                    f"put the control interface (class 1, subclass 1, protocol 0x20) right behind the association at {last.place}", block,
                    {"subclass": 1} if is_interface else {"type": None}, at=block.place)

@@ -104,6 +104,8 @@ REFUSED = (
     ("association-codes", "G7", "an association of another class or protocol in front of them", STANDARD, "Audio Class 2.0, 4.6"),
     ("control-protocol", "G7", "a control interface of another protocol behind the association", STANDARD, "Audio Class 2.0, 4.7.1"),
     ("control-not-first", "G7", "another interface first behind the association", STANDARD, "Audio Class 2.0, 4.7"),
+    ("behind-association", "G7", "a block that is no interface between the association and the control interface", LIMIT,
+     "no clause is known that forbids it"),
     ("other-version", "G7", "an audio function of another version alone", LIMIT, "version 2.0 is taken"),
     ("no-audio", "G7", "no audio function at all", LIMIT, "an audio function is taken"),
     ("unit-kind", "G8", "a processing, extension or rate converter unit", LIMIT,
