@@ -72,13 +72,22 @@ def range_of(block, control):
     return others.get(control.name, "0, 1")
 
 
-def rates_of(block, by_id, depth=0):
-    """The rates that a clock entity can be brought to by the controls that a host may set; a selector's are those of its pins."""
-    if block is None or depth > len(by_id):
+def rates_of(block, by_id, known=None):
+    """The rates that a clock entity can be brought to by the controls that a host may set; a selector's are those of its pins. Known are
+    those of clock entities that were found already, by their ids."""
+    known = {} if known is None else known
+    if block is None:
         return set()
+    if block["id"] not in known:
+        known[block["id"]] = set()
+        known[block["id"]] = rates_behind(block, by_id, known)
+    return known[block["id"]]
+
+
+def rates_behind(block, by_id, known):
     if block.kind == "clock_source":
         return set(source_rates(block)) if is_programmable(block, 1) else {START_RATE}
-    behind = [rates_of(by_id.get(name), by_id, depth + 1) for name in block.sources]
+    behind = [rates_of(by_id.get(name), by_id, known) for name in block.sources]
     if block.kind == "clock_selector":
         return set().union(*behind) if is_programmable(block, 1) else behind[0]
     above = range(1, 9) if is_programmable(block, 1) else (1,)

@@ -51,9 +51,13 @@ def in_fields(data, finding):
 
 
 def is_sure(finding, data):
-    """Whether one value alone is right: where a block is too few in number or bytes, what is missing can't be known."""
+    """Whether one value alone is right: what is missing can't be known, and what says version 3.0 may be that."""
     if finding.case.name not in SURE or None in finding.fields.values():
         return False
+    if finding.case.name == "version":
+        return finding.block["version"] in (0x0100, 0x0002)
+    if finding.case.name in ("control-protocol", "association-codes"):
+        return finding.block["protocol"] in (0x00, 0x20)
     if finding.case.name == "endpoint-count":
         return finding.block["endpoints"] < finding.fields["endpoints"]
     return finding.case.name != "total" or not is_cut_off(finding.block, cut(data)[0])

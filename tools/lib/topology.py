@@ -47,15 +47,20 @@ def locations_of(block, by_id):
     return (block["locations"] if block is not None else None) or 0
 
 
-def clocks_behind(block, by_id):
-    """The clocks of the input terminals to which signal links lead, by the terminals."""
+def behind(block, by_id):
+    """The ids to which signal links lead from an entity, its own too."""
     seen, waiting = set(), [block["id"]]
     while waiting:
         one = waiting.pop()
-        if one not in seen:
+        if one not in seen and one in by_id:
             seen.add(one)
             waiting += signal_sources(by_id[one])
-    return {one: by_id[one]["clock"] for one in sorted(seen) if by_id[one].kind == "input_terminal"}
+    return seen
+
+
+def clocks_behind(block, by_id):
+    """The clocks of the input terminals to which signal links lead, by the terminals."""
+    return {one: by_id[one]["clock"] for one in sorted(behind(block, by_id)) if by_id[one].kind == "input_terminal"}
 
 
 def way_round(block, by_id):
@@ -102,10 +107,7 @@ def free_id(blocks):
 
 def able_sources(block, by_id):
     """The entities that may be a source of this one: they put out a signal, and aren't fed by it."""
-    def is_fed(one, seen=()):
-        return one is block or any(is_fed(by_id[source], (*seen, one["id"])) for source in signal_sources(one)
-                                   if source in by_id and source not in seen and len(seen) < 64)
-    return [one for one in by_id.values() if not is_silent(one) and one is not block and not is_fed(one)]
+    return [one for one in by_id.values() if not is_silent(one) and block["id"] not in behind(one, by_id)]
 
 
 def likely_source(block, by_id, blocks):
