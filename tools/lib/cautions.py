@@ -79,8 +79,7 @@ def of_audio_association(block, numbers):
                       "names those that do", "number them in turn", block, {"count": None})
     if block["subclass"] != 0:
         yield Finding("association-subclass", f"bFunctionSubClass of the audio association is {block['subclass']:#04x}, and an audio "
-                      "association has 0x00 there",
-                      write(block, "subclass", 0, "0x00"), block, {"subclass": 0})
+                      "association has 0x00 there", write(block, "subclass", 0, "0x00"), block, {"subclass": 0})
 
 
 def configuration(blocks):
@@ -105,11 +104,9 @@ def control_interface(blocks):
         yield Finding("control-setting", f"bAlternateSetting of the control interface is {block['setting']}, and it has setting 0 alone",
                       write(block, "setting", 0), block, {"setting": 0})
     if block["endpoints"] != count:
-        yield Finding("control-endpoints", f"bNumEndpoints of the control interface is {block['endpoints']}, and "
-                      f"{counted(count, 'endpoint') if count else 'none'} {'stand' if count > 1 else 'stands'} there", write(block,
-                                                                                                                             "endpoints",
-                                                                                                                             count), block,
-                      {"endpoints": count})
+        there = f"{counted(count, 'endpoint')} stand" if count > 1 else "1 endpoint stands" if count else "none stands"
+        yield Finding("control-endpoints", f"bNumEndpoints of the control interface is {block['endpoints']}, and {there} there",
+                      write(block, "endpoints", count), block, {"endpoints": count})
 
 
 def name_of(setting):
@@ -135,9 +132,8 @@ def formats(blocks):
         if not ends:
             continue
         if general is None:
-            yield Finding("no-format", f"{name_of(setting)} has endpoints and no General (24 01)", "put its General, 16 bytes, in front "
-                          "of them",
-                          ends[0], {}, at=ends[0].place)
+            yield Finding("no-format", f"{name_of(setting)} has endpoints and no General (24 01)",
+                          "put its General, 16 bytes, in front of them", ends[0], {}, at=ends[0].place)
         elif general["format_type"] == 1 and "type_one" not in setting:
             yield Finding("no-format", f"{name_of(setting)} says format type 1, and no Type I block (24 02 01) stands behind its General "
                           f"at {general.place}", f"put 06 24 02 01, the bytes of a sample and its bits at {general.place + 16}; its 6 "
@@ -167,10 +163,9 @@ def terminals(blocks):
     links = {one["general"]["link"] for one in settings_of(blocks) if "general" in one}
     for block in by_id.values():
         if is_usb(block) and block["id"] not in links and not any(hidden(blocks)):
-            kind = "a jack, as 0x0301 for a speaker" if block.kind == "output_terminal" else "a jack, as 0x0201 for a microphone"
+            kind = "0x0301 for a speaker" if block.kind == "output_terminal" else "0x0201 for a microphone"
             yield Finding("unlinked-terminal", f"{entity_name(block)}, at {block.place}, is a terminal of the bus, and no interface links "
-                          "to it",
-                          f"give it the type of {kind} in {standard_name(block.kind, 'terminal_type')}, or link an interface to it", block,
+                          "to it", f"write the type of a jack in wTerminalType, as {kind}, or link an interface to it", block,
                           {"terminal_type": None})
         if block["assoc"] and block["terminal_type"] is not None and not is_terminal(by_id.get(block["assoc"])):
             yield Finding("associated-terminal", f"bAssocTerminal of {entity_name(block)} is {block['assoc']}, and no terminal has that id",
@@ -238,11 +233,8 @@ def unplayed_bits(blocks):
                     right = word | sum(1 << 2 * bit for bit in bits)
                     name = entity_name(block) if block.kind in ENTITY_KINDS else f"the {kind_name(block)} at {block.place}"
                     yield Finding("unplayed-bits", f"{standard_name(block.kind, field)} of {name} is {word:#x}: bits "
-                                  f"{2 * bits[0] + 1}..{2 * bits[0]} are 10, which no control may have", write(block, field, right,
-                                                                                                               f"{right:#x}")
-                                  + ", or 00 where it "
-                                  "isn't there",
-                                  block, {field: right})
+                                  f"{2 * bits[0] + 1}..{2 * bits[0]} are 10, which no control may have",
+                                  f"{write(block, field, right, f'{right:#x}')}, or 00 where it isn't there", block, {field: right})
 
 
 def packets(blocks):
@@ -255,10 +247,10 @@ def packets(blocks):
             if size < least.get(more, 0):
                 right = size * (1 + more)
                 fits = right if right <= 1024 else None
+                advice = f"{write(block, 'max_packet', fits)} for the same {right} bytes in a microframe" if fits else \
+                    f"write {least[more]} bytes or more, or fewer transactions"
                 yield Finding("packet-size", f"{name} has {size} bytes and {counted(more, 'additional transaction')}, where {least[more]} "
-                              "to 1024 bytes are allowed", write(block, "max_packet", fits)
-                              + f" for the same {right} bytes in a microframe" if fits
-                              else f"write {least[more]} bytes or more, or fewer transactions", block, {"max_packet": fits})
+                              "to 1024 bytes are allowed", advice, block, {"max_packet": fits})
             if at == 1 and block["attributes"] >> 4 & 3 == 1 and size < 4:
                 yield Finding("feedback-size", f"{name} sends feedback in {size} bytes; at high speed it has 4 (3 is full speed's)",
                               write(block, "max_packet", 4), block, {"max_packet": 4})
@@ -268,11 +260,10 @@ def fixed_clocks(blocks):
     for block in (one for one in blocks if one.kind == "clock_source"):
         if block["attributes"] & 3 == 1 and access_of(block, control_of("clock_source", 1)) == "host-programmable":
             right = block["controls"] & ~2
+            advice = (f"{write(block, 'controls', right, f'{right:#04x}')} where it is fixed, "
+                      "or 3 (programmable) in bits 1..0 of bmAttributes")
             yield Finding("fixed-writable", f"{entity_name(block)}, at {block.place}, is internal and fixed, and a host may set its "
-                          "frequency",
-                          write(block, "controls", right, f"{right:#04x}") + " where it is fixed, or 3 (programmable) in bits 1..0 of "
-                          "bmAttributes",
-                          block, {"controls": right})
+                          "frequency", advice, block, {"controls": right})
 
 
 def companions(blocks):

@@ -78,9 +78,15 @@ def step(check, data):
     return in_fields(data, finding) if finding.block is not None and is_sure(finding, data) else (data, [])
 
 
+def is_surely_swapped(block):
+    """Whether control words whose bytes look swapped say as they stand that a host may set an underflow, which it can only read."""
+    return any(word >> 26 & 3 == 3 for word in block["words"])
+
+
 def careful_step(data):
     """One warning's thing put right in sound bytes: the bytes, and what changed."""
-    found = [one for one in cautions(cut(data)[0]) if one.case.name in SURE_WARNINGS and None not in one.fields.values()]
+    found = [one for one in cautions(cut(data)[0]) if one.case.name in SURE_WARNINGS and None not in one.fields.values()
+             and (one.case.name != "swapped-controls" or is_surely_swapped(one.block))]
     for finding in sorted(found, key=lambda one: SURE_WARNINGS.index(one.case.name)):
         whole, done = in_fields(data, finding)
         if done:
