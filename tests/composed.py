@@ -85,8 +85,8 @@ def test_texts_that_are_refused_before_a_run(_):
 
 def test_refused_lines_are_told_with_their_line(_):
     """A line that the program refuses: the text's line, what it makes, the rule and its sentence, and what is there."""
-    refused(HEADSET + "\nclock 9 10 ppm # no such\n", READY, "line 3 of -, 'clock 9 10 ppm # no such', is refused by S6: it makes 'k 9 10'; ",
-            "\n  Clocks that terminals name here: 1.\n")
+    refused(HEADSET + "\nclock 9 10 ppm # no such\n", READY,
+            "line 3 of -, 'clock 9 10 ppm # no such', is refused by S6: it makes 'k 9 10'; ", "\n  Clocks that terminals name here: 1.\n")
     refused(HEADSET + "j 2 none\n", READY, "line 2 of -, 'j 2 none', is refused by S6: ", "Input jacks here: 5.")
     refused(HEADSET + "lose out 2 for 8\n", READY, "it makes 'm 8 o2'", "Interfaces that carry a stream to the device here: 1;")
     refused(HEADSET + "volume 3 master 0 dB\n", READY, "Elements here: rate.1.0, mute.3.0, volume.3.1, volume.3.2, mute.6.0, volume.6.1.")
@@ -109,7 +109,8 @@ def test_a_refused_descriptor_is_told_with_its_line(folder):
 def test_levels_alone(_):
     """Six frames come and none is taken while the stream primes; reports say the nominal value, and a lost one is said to be lost."""
     need("streams")
-    done = compose(HEADSET + "detail 0\nstart 1\nwait 7 microframes\nlose report 1 and out 1 for 1\nwait 1 microframe\n", "--only", "levels")
+    text = HEADSET + "detail 0\nstart 1\nwait 7 microframes\nlose report 1 and out 1 for 1\nwait 1 microframe\n"
+    done = compose(text, "--only", "levels")
     rows = ["microframe        ms  stream  level  target  host's value  what happened"]
     for at in range(1, 10):
         rows.append(f"{at:10} {at / 8:9.3f}       1 {6 * at:6}       -      6.000000")

@@ -159,7 +159,8 @@ def test_plot_of_a_recording(_):
 
 
 def test_four_lost_reports_are_not_steady(_):
-    text = "".join(f"u {at}\nl 1 {at} -\n" + (f"f 1 00060000 {'ok' if at == 8 else 'lost'}\n" if at % 8 == 0 else "") for at in range(1, 49))
+    reports = {8: "f 1 00060000 ok\n", **{at: "f 1 00060000 lost\n" for at in (16, 24, 32, 40, 48)}}
+    text = "".join(f"u {at}\nl 1 {at} -\n{reports.get(at, '')}" for at in range(1, 49))
     words = "0 packets lost, 5 reports lost; not steady from microframe 40 (5 ms) on: four reports in succession were lost"
     assert words in plotted(text.encode() + b"steady no\n").said()
 

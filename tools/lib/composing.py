@@ -4,9 +4,9 @@ Lines of the script stand in it as they are. Each line that comes of it keeps th
 import difflib, os, re
 from fractions import Fraction
 from descriptor import cut, settings_of
+from scripted import LINES
 from tool import Refused, read_input
 
-LETTERS = tuple("dgchbatjkmvq")
 FORMS = {
     "descriptor": "descriptor FILE",
     "start": "start INTERFACE, or start INTERFACE SETTING",
@@ -16,7 +16,8 @@ FORMS = {
     "volume": "volume ENTITY CHANNEL NUMBER dB, or silence in place of the number and dB",
     "clock": "clock CLOCK NUMBER ppm",
     "wait": "wait NUMBER ms, or s or microframes in place of ms",
-    "lose": "lose out INTERFACE for NUMBER (in or report in place of out; 'and' between several; NUMBER counts microframes, or has ms behind it)",
+    "lose": "lose out INTERFACE for NUMBER (in or report in place of out; 'and' between several; NUMBER counts microframes, or has ms "
+            "behind it)",
     "detail": "detail 0, 1 or 2",
     "report": "report",
 }
@@ -208,7 +209,7 @@ def keep_descriptor(words, script):
 def made_of(words, script, folder):
     """The lines of the script that a line of the text makes."""
     word, rest = words[0], words[1:]
-    if word in LETTERS:
+    if word in LINES:
         keep_descriptor(words, script)
         return [" ".join(words)]
     if word not in MAKERS:
@@ -236,7 +237,7 @@ def composed(name, data):
         except Refused as why:
             raise Refused(f"line {number} of {name}, '{line.strip()}': {why}")
         script.texts[number] = line.strip()
-        if words[0] not in LETTERS:
+        if words[0] not in LINES:
             script.add(f"# {' '.join(words)}", number)
         for one in made:
             script.add(one, number)

@@ -93,7 +93,7 @@ class Panel:
             yield f'<path d="{path}" fill="none" stroke="{colour}" stroke-width="3.4" stroke-linecap="round"/>'
 
     def steps(self, changes, until, colour):
-        """A line that keeps each value until the next, and the last until a time: pairs of the time from which on it holds and the value."""
+        """A line that keeps each value until the next, and the last until a time: pairs of a time and the value from it on."""
         points, before = [], None
         for at, value in changes:
             points += ([(at, before)] if before is not None else []) + [(at, value)]

@@ -18,7 +18,7 @@ LINES = {
           "TERMINAL is 0 to 255, START and STEP -2147483648 to 2147483647, SEED 0 to 4294967295"),
     "k": ("k CLOCK PPM", "CLOCK is 0 to 255, PPM -100000 to 100000"),
     "m": ("m COUNT, and up to 24 marks as o1, i2 or f1", "COUNT is 1 to 8000, an interface 0 to 255"),
-    "v": ("v LEVEL", "LEVEL is 0, 1 or 2"),
+    "v": ("v DETAIL", "DETAIL is 0, 1 or 2"),
     "q": ("q", ""),
 }
 MOST_NAMES = 12
