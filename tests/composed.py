@@ -116,5 +116,16 @@ def test_levels_alone(_):
         rows.append(f"{at:10} {at / 8:9.3f}       1 {6 * at:6}       -      6.000000")
     rows[8] += "  packet lost, report 6.000000 lost"
     same((done.returncode, done.stdout.decode(), done.stderr), (0, "\n".join(rows) + "\n", b""), "compose")
+    done = compose(HEADSET + "wait 1 ms\nclock 9 0 ppm\n", "--only", "levels")
+    assert done.returncode == 1 and done.stdout == b"" and b"line 3 of -" in done.stderr, done.stderr
     one_sentence(compose(HEADSET, "--only", "rates"), 1, "--only levels is what there is")
     one_sentence(compose(HEADSET + "wait 1 ms\n", "--only", "levels"), 1, "- tells of no stream that ran: the text has to start a stream")
+
+
+def test_levels_of_a_long_service_interval(_):
+    """A packet of 48 frames comes every 8 microframes, and the stream primes with the first level of 512 or more."""
+    need("streams")
+    text = "descriptor examples/f_uac2-default.bin\nstart 1\nwait 12 ms\n"
+    rows = compose(text, "--only", "levels").stdout.decode().split("\n")[1:-1]
+    wanted = [[str(8 * at), f"{at:.3f}", "1", str(min(48 * at, 528)), "528" if at >= 11 else "-", "6.000000"] for at in range(1, 13)]
+    same([row.split()[:6] for row in rows], wanted, "compose")

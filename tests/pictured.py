@@ -140,6 +140,13 @@ def test_the_value_in_force_changes_behind_its_report(_):
     assert all(value == curve[0][1] for _, value in curve[:-2]), "the value is 6 up to its change"
 
 
+def test_no_value_is_told_where_the_detail_came_late(_):
+    """The stream is primed where the transcript begins, so what the host goes by is known from the first report that came on."""
+    text = "".join(f"u {at}\nl 1 258 258\n" + ("f 1 00060400 ok\n" if at == 48 else "") for at in range(41, 61))
+    curve = plotted(text.encode()).curves("the host's value and reports that came, frames in a microframe")["#333"][0]
+    near(curve, [(49, 6.015625), (60, 6.015625)], "the value", 0.001)
+
+
 def test_curves_are_parted_where_a_stream_begins_anew(_):
     """Ten microframes, five without the stream, and ten more from an empty ring on."""
     text = "".join(f"u {at}\n" + (f"l 1 {6 * (at if at <= 10 else at - 15)} -\n" if not 10 < at <= 15 else "") for at in range(1, 26))
@@ -161,7 +168,7 @@ def test_plot_of_a_recording(_):
 def test_four_lost_reports_are_not_steady(_):
     reports = {8: "f 1 00060000 ok\n", **{at: "f 1 00060000 lost\n" for at in (16, 24, 32, 40, 48)}}
     text = "".join(f"u {at}\nl 1 {at} -\n{reports.get(at, '')}" for at in range(1, 49))
-    words = "0 packets lost, 5 reports lost; not steady from microframe 40 (5 ms) on: four reports in succession were lost"
+    words = "0 packets lost, 5 reports lost; not steady: four reports in succession were lost by microframe 40 (5 ms)"
     assert words in plotted(text.encode() + b"steady no\n").said()
 
 

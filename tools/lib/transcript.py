@@ -16,12 +16,12 @@ class Playing:
     def __init__(self, number):
         self.number, self.levels, self.reports, self.values = number, [], [], []
         self.lost_packets, self.lost_reports, self.starts, self.unsteady = [], [], [], None
-        self.begun = self.missed = None
+        self.begun, self.missed = None, 0
 
-    def begin(self, at):
-        """A start: the value is the nominal one, not known yet."""
+    def begin(self, at, is_amid=False):
+        """A start: the value is the nominal one, told by the next report. Amid a run, where the detail came late, nothing tells it."""
         self.starts.append(at)
-        self.begun, self.missed = at, 0
+        self.begun, self.missed = None if is_amid else at, 0
 
     def add_level(self, at, level, target, ran_empty):
         """The level at a microframe's end. That a stream began anew is told by a level that fell while it primed, or by a target that went
@@ -29,7 +29,7 @@ class Playing:
         before = self.levels[-1] if self.levels else None
         is_fresh = before is not None and target is None and not ran_empty and (before[2] is not None or level < before[1])
         if before is None or is_fresh:
-            self.begin(at)
+            self.begin(at, target is not None)
         self.levels.append((at, level, target))
 
     def add_report(self, at, value, is_lost):
@@ -39,7 +39,7 @@ class Playing:
         self.reports.append((at, value, is_lost))
         if is_lost:
             self.lost_reports.append(at)
-            self.missed = (self.missed or 0) + 1
+            self.missed += 1
             if self.missed >= UNSTEADY_REPORTS and self.unsteady is None:
                 self.unsteady = at
         else:
