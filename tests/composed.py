@@ -1,5 +1,5 @@
 """Tests of tools/compose that a case can't be; tests/tools runs them."""
-import os, subprocess
+import os, re, subprocess, sys
 from needs import PROGRAM, TOP, as_lines
 from tooling import example, need, one_sentence, same, tool
 
@@ -104,6 +104,26 @@ def test_a_refused_descriptor_is_told_with_its_line(folder):
     with open(path, "wb") as file:
         file.write(example("examples/headset.bin").replace(bytes.fromhex("1224060302030000"), bytes.fromhex("1224060302020000")))
     refused(f"\ndescriptor {path}\nwait 1 ms\n", "", f"line 2 of -, 'descriptor {path}': the descriptor breaks G4, at 78, which wants: ")
+
+
+def test_docs_have_each_word_and_letter(_):
+    """docs/TOOLS.md and --help have each word of a text, and docs/SCRIPT.md each letter that goes through."""
+    code = "from composing import FORMS, LINES; print(*FORMS); print(*LINES)"
+    told = subprocess.run([sys.executable, "-B", "-c", code], stdout=subprocess.PIPE, cwd=os.path.join(TOP, "tools/lib"))
+    told = told.stdout.decode().split("\n")
+    words = set(told[0].split())
+    table = example("docs/TOOLS.md").decode().partition("| Line | What it makes of it |")[2].partition("\n\n")[0]
+    same(set(re.findall(r"^\| `(\w+)", table, re.MULTILINE)), words, "docs/TOOLS.md")
+    said = tool("compose", "--help").stdout.decode()
+    same(set(re.findall(r"^  (\w+)", said, re.MULTILINE)), words, "--help")
+    table = example("docs/SCRIPT.md").decode().partition("| Line | Example |")[2].partition("\n\n")[0]
+    same(set(re.findall(r"^\| `(\w)", table, re.MULTILINE)), set(told[1].split()), "docs/SCRIPT.md")
+
+
+def test_what_people_write(_):
+    """Tabs, several spaces, carriage returns, a mark of the bytes' order, and no newline at the end."""
+    made = compose("\ufeffwait\t1  ms\r\n  v 1 \r\n\tq\t# why\nstop 1", "--script").stdout.decode()
+    same(made, "# wait 1 ms\nm 8\nv 1\nq\n# stop 1\nc 010b000001000000\n", "compose")
 
 
 def test_levels_alone(_):

@@ -225,7 +225,7 @@ def composed(name, data):
     """The script that a text makes. What can't be read is refused with its line."""
     script, folder = Script(name), os.path.dirname(name) if name != "-" else ""
     try:
-        lines = data.decode("utf-8").split("\n")
+        lines = data.decode("utf-8-sig").split("\n")
     except UnicodeDecodeError:
         raise Refused(f"{name} is no text: lines of words are wanted")
     for number, line in enumerate(lines, 1):
