@@ -299,13 +299,14 @@ class Visit:
             self.bus.stop(interface)
         self.comment("the end of the visit")
         self.end_run()
-        self.tell(why)
+        return self.report(why)
 
-    def tell(self, why):
+    def report(self, why):
+        """What came of the visit, kept and as it is told."""
         self.account.microframes = self.bus.passed
         text = "".join(line + "\n" for line in [*self.account.lines(self.bus.ended), f"the end: {why}"])
         self.recording.report(text)
-        self.say(f"detached: {why}\n" + "".join(f"  {line}\n" for line in text.splitlines()[:-1]).rstrip("\n"))
+        return f"detached: {why}\n" + "".join(f"  {line}\n" for line in text.splitlines()[:-1]).rstrip("\n")
 
     def give_up(self, why):
         """The program is gone: what is known is told."""
@@ -313,7 +314,7 @@ class Visit:
             self.program.stop()
         for interface in list(self.bus.streams):
             self.bus.stop(interface)
-        self.tell(why)
+        return self.report(why)
 
     # ---- lines of standard input
 
