@@ -37,9 +37,11 @@ def spell_microframes(marks):
 class Bus:
     """The streams of one import. `judge_of` makes the judge of a stream's packets; `answer` is handed what goes back to the host."""
 
-    def __init__(self, recording, answer, cushion, losses, judge_of):
+    def __init__(self, recording, answer, cushion, losses, judge_of, has_one_jack):
         self.recording, self.answer, self.cushion, self.losses, self.judge_of = recording, answer, cushion, losses, judge_of
-        self.streams, self.ended, self.listening, self.time, self.before = {}, [], {}, 0, 0
+        self.streams, self.ended, self.listening, self.time, self.before, self.told = {}, [], {}, 0, 0, []
+        # Whether only one jack plays, so that each line of a jack is one of its.
+        self.has_one_jack = has_one_jack
 
     # ---- streams
 
@@ -49,7 +51,7 @@ class Bus:
             stream = OutStream(form, nominal_of(rate), self.cushion, now, jack)
             stream.judge = self.judge_of(form, nominal_of(rate))
             if jack is not None:
-                self.listening[str(jack)] = stream
+                self.listening[f"p {jack} "] = stream
         else:
             stream = InStream(form, now)
         stream.rate, stream.due_reports, stream.began, stream.ended = rate, 0, self.passed, None
@@ -100,30 +102,19 @@ class Bus:
 
     def turn(self, program, most):
         """As many microframes as the host's transfers allow; how many that were."""
-        plan = self.plan(most, time.monotonic())
-        if plan:
-            text = self.text_of(plan)
-            parts = ("\n" + program.turn(text)).split("\nu ")[1:]
-            if len(parts) != len(plan):
-                raise Stopped(f"the program printed {len(parts)} microframes, and {len(plan)} were asked for")
+        now = time.monotonic()
+        asleep = self.asleep(now)
+        count = self.reach(most, asleep)
+        if count:
+            parts = ("\n" + program.turn(self.text_of(count, asleep))).split("\nu ")[1:]
+            if len(parts) != count:
+                raise Stopped(f"the program printed {len(parts)} microframes, and {count} were asked for")
             now = time.monotonic()
-            for events, part in zip(plan, parts):
-                self.microframe(events, part.split("\n")[1:], now)
-        return len(plan)
-
-    def plan(self, most, now):
-        """For each microframe the packets and reports that are due: the stream, what it is, and the host's transfer (None where it sleeps)."""
-        asleep, plan, places = self.asleep(now), [], {}
-        for stream in self.streams.values():
-            if stream.form.is_out:
-                until_report = stream.form.report_period - stream.age % stream.form.report_period
-                most = min(most, stream.clear_for(most, until_report), until_report if stream.data in asleep else most)
-        while len(plan) < most:
-            events = self.events_at(len(plan) + 1, places, asleep)
-            if events is None:
-                break
-            plan.append(events)
-        return plan
+            for part in parts:
+                self.microframe(part, now)
+            told, self.told = "".join(self.told), []
+            self.recording.packets(told)
+        return count
 
     def asleep(self, now):
         """The endpoints that the host has left alone for a while, where something else goes on."""
@@ -132,87 +123,99 @@ class Bus:
         return {pipe for stream in self.streams.values() for pipe in stream.pipes
                 if not pipe.transfers and now - pipe.last >= PATIENCE}
 
-    def events_at(self, at, places, asleep):
-        """What is due in a microframe; None where the host's transfers don't reach so far."""
-        events = []
-        for stream in self.streams.values():
-            due = []
-            if (stream.age + at) % stream.form.period == 0:
-                due.append(("o" if stream.form.is_out else "i", stream.data))
-            if stream.feedback is not None and (stream.age + at) % stream.form.report_period == 0:
-                due.append(("f", stream.feedback))
-            for kind, pipe in due:
-                if stream.is_closing:
-                    continue
-                one = self.next_transfer(pipe, places)
-                if one is None and pipe not in asleep:
-                    return None
-                events.append((kind, stream, pipe, one))
-        return events
-
-    def next_transfer(self, pipe, places):
-        """The transfer that has the endpoint's next packet."""
-        index, at = places.get(pipe, (0, None))
-        if index >= len(pipe.transfers):
-            return None
-        one = pipe.transfers[index]
-        at = (one.at if at is None else at) + 1
-        places[pipe] = (index + 1, None) if at == len(one.packets) else (index, at)
-        return one
-
-    def text_of(self, plan):
-        """The lines of these microframes, before them the frames that come onto tracks."""
-        marks, ahead, text = [set() for _ in plan], {}, ""
-        for at, events in enumerate(plan):
-            for kind, stream, _, one in events:
-                mark = f"{kind}{stream.form.interface}"
-                if kind == "o":
-                    self.push(stream, one, ahead)
-                elif one is None or kind == "f" and self.is_lost(stream):
-                    marks[at].add(mark)
+    def reach(self, most, asleep):
+        """How many of so many microframes can be done: as far as the packets reach that the host handed in, and as a track needs it."""
         for stream in self.streams.values():
             if stream.form.is_out:
-                frames, lost = stream.feed(len(plan))
-                text += spell_samples(stream.form.interface, frames, stream.silence, stream.form.channels)
+                until_report = stream.feedback.until_due(stream.age)
+                most = min(most, stream.clear_for(most, until_report), until_report if stream.data in asleep else most)
+            if not stream.is_closing:
+                for pipe in stream.pipes:
+                    if pipe not in asleep:
+                        most = min(most, pipe.reach(stream.age, most))
+        return most
+
+    def text_of(self, count, asleep):
+        """The lines of so many microframes, before them the frames that come onto tracks."""
+        marks, text = [set() for _ in range(count)], ""
+        for interface, stream in self.streams.items():
+            if not stream.is_closing:
+                self.mark_losses(stream, marks, asleep)
+            if stream.form.is_out:
+                if not stream.is_closing:
+                    self.push(stream, stream.data.count_due(stream.age, count), stream.data in asleep)
+                frames, lost = stream.feed(count)
+                text += spell_samples(interface, frames, stream.silence, stream.form.channels)
                 for at in lost:
-                    marks[at - 1].add(f"o{stream.form.interface}")
+                    marks[at - 1].add(f"o{interface}")
         return text + spell_microframes(marks)
 
-    def push(self, stream, one, ahead):
-        """The host's packet waits from now on, or that it skipped one."""
-        if one is None:
-            stream.skip_packet()
+    def mark_losses(self, stream, marks, asleep):
+        """Marks the packets and reports that nobody asks for, and the reports that are to be lost."""
+        letter, pipe = ("f", stream.feedback) if stream.form.is_out else ("i", stream.data)
+        is_asleep = pipe in asleep
+        if not is_asleep and (letter == "i" or self.losses is None):
             return
-        at = ahead.get(one, one.at)
-        place, length = one.packets[at]
-        ahead[one] = at + 1
-        stream.take_packet(one.data[place:place + length])
+        for at in range(pipe.until_due(stream.age), len(marks) + 1, pipe.period):
+            if is_asleep or self.is_lost(stream):
+                marks[at - 1].add(f"{letter}{stream.form.interface}")
+
+    def push(self, stream, count, is_asleep):
+        """The host's next packets wait from now on, or that it skipped so many."""
+        if is_asleep:
+            for _ in range(count):
+                stream.skip_packet()
+            return
+        for one in stream.data.transfers:
+            more = min(count, len(one.packets) - one.at)
+            stream.take_packets(one, more)
+            count -= more
+            if not count:
+                break
 
     def is_lost(self, stream):
         """Whether the stream's next report is to be lost."""
         stream.due_reports += 1
-        return self.losses is not None and (stream.due_reports - 1) % self.losses[1] < self.losses[0]
+        return (stream.due_reports - 1) % self.losses[1] < self.losses[0]
 
     # ---- what the program printed
 
-    def microframe(self, events, lines, now):
+    def microframe(self, part, now):
+        """The lines of one microframe: packets to the device, packets from it with their frames, ticks, levels, and reports."""
         self.time += 1
-        heard, reports, formed = {}, {}, {}
         for stream in self.streams.values():
             stream.begin_microframe()
-        for line in lines:
-            first = line[:1]
-            if first == "p":
-                _, jack, samples = line.split(" ", 2)
-                if jack in self.listening:
-                    self.listening[jack].tick(samples)
-            elif first == "r":
-                _, interface, samples = line.split(" ", 2)
-                heard.setdefault(interface, []).append(samples)
-            elif first:
+        lines, heard, reports, formed = part.split("\n"), {}, {}, {}
+        at, end = 1, len(lines)
+        while end > at and lines[end - 1][:1] in ("", "l", "f"):
+            end -= 1
+        while at < end:
+            line = lines[at]
+            at += 1
+            if line[0] == "p":
+                if "\nunder " not in part and "\nover " not in part:
+                    self.take_ticks(lines[at - 1:end])
+                    break
+                self.take_ticks([line])
+                continue
+            words = line.split(" ")
+            if words[0] == "i":
+                frames = int(words[2]) if words[3] == "ok" else 0
+                heard[int(words[1])] = lines[at:at + frames]
+                at += frames
+            else:
+                self.take_line(words, reports, formed)
+        for line in lines[end:]:
+            if line:
                 self.take_line(line.split(" "), reports, formed)
-        for event in events:
-            self.finish(event, heard, reports, formed, now)
+        for stream in self.streams.values():
+            if not stream.is_closing:
+                self.finish(stream, heard, reports, formed, now)
+
+    def take_ticks(self, lines):
+        """The frames of jacks that came out."""
+        for front, stream in self.listening.items():
+            stream.take_ticks(front, lines if self.has_one_jack else [line for line in lines if line.startswith(front)])
 
     def take_line(self, words, reports, formed):
         """A line on a packet to the device, a level, a report, or a ring that ran empty or over."""
@@ -231,22 +234,29 @@ class Bus:
         elif words[0] == "under":
             stream.run_dry()
 
-    def finish(self, event, heard, reports, formed, now):
-        """What a packet or a report of the host came to."""
-        kind, stream, pipe, one = event
-        interface = stream.form.interface
-        if kind == "o":
-            told = self.finish_out(stream, one, formed.get(stream, 0))
-        elif kind == "i":
-            told = self.finish_in(stream, one, heard.get(str(interface), []))
-        else:
-            told = self.finish_report(stream, one, reports.get(stream))
-        self.recording.packets(f"{self.time} {kind} {interface} {told}\n")
-        if one is not None:
-            pipe.last = now
-            if one.at == len(one.packets):
-                pipe.transfers.popleft()
-                self.answer(answer_of(one, DONE))
+    def finish(self, stream, heard, reports, formed, now):
+        """What a stream's packet and report came to in this microframe, where they were due."""
+        interface, age = stream.form.interface, stream.age
+        if age % stream.data.period == 0:
+            pipe = stream.data
+            one = pipe.transfers[0] if pipe.transfers else None
+            if stream.form.is_out:
+                self.told.append(f"{self.time} o {interface} {self.finish_out(stream, one, formed.get(stream, 0))}\n")
+            else:
+                self.told.append(f"{self.time} i {interface} {self.finish_in(stream, one, heard.get(interface, []))}\n")
+            if one is not None and one.at == len(one.packets):
+                self.complete(pipe, now)
+        if stream.feedback is not None and age % stream.feedback.period == 0:
+            pipe = stream.feedback
+            one = pipe.transfers[0] if pipe.transfers else None
+            self.told.append(f"{self.time} f {interface} {self.finish_report(stream, one, reports.get(stream))}\n")
+            if one is not None and one.at == len(one.packets):
+                self.complete(pipe, now)
+
+    def complete(self, pipe, now):
+        """The first transfer of an endpoint goes back to the host."""
+        pipe.last = now
+        self.answer(answer_of(pipe.transfers.popleft(), DONE))
 
     def finish_out(self, stream, one, formed):
         if one is None:
@@ -254,24 +264,26 @@ class Bus:
             stream.measure(formed)
             stream.judge.skip(formed)
             return "-"
-        length = one.packet()[1]
+        length = one.packets[one.at][1]
         frames = length // stream.form.frame
         one.end_packet(length=length)
         stream.measure(frames)
         stream.judge.packet(frames)
         return f"{frames} {length}"
 
-    def finish_in(self, stream, one, frames):
+    def finish_in(self, stream, one, lines):
         if one is None:
             stream.lost += 1
             return "-"
-        data = bytes_of(list(map(int, " ".join(frames).split())), stream.form.subslot)
-        room = one.packet()[1]
+        front = len(f"r {stream.form.interface} ")
+        samples = " ".join([line[front:] for line in lines]).split()
+        data = bytes_of(list(map(int, samples)), stream.form.subslot)
+        room = one.packets[one.at][1]
         stream.packets += 1
-        stream.frames += len(frames)
+        stream.frames += len(lines)
         stream.cut += len(data) > room
         one.end_packet(data[:room], TOO_MUCH if len(data) > room else DONE)
-        return f"{len(frames)} {len(data)}"
+        return f"{len(lines)} {len(data)}"
 
     def finish_report(self, stream, one, value):
         if one is None:
@@ -281,7 +293,7 @@ class Bus:
             stream.reports_lost += 1
             one.end_packet(status=NO_ANSWER)
             return "lost"
-        one.end_packet(value.to_bytes(4, "little")[:one.packet()[1]])
+        one.end_packet(value.to_bytes(4, "little")[:one.packets[one.at][1]])
         ahead = sum(len(waits.packets) - waits.at for waits in stream.data.transfers)
         stream.hear_report(value)
         stream.judge.report(value, ahead)

@@ -107,6 +107,9 @@ class Device:
         control = next(control for selector in (1, 2) if (control := control_of(block.kind, selector)) and control.element == kind)
         return control.width, control.signed
 
+    def count_out_jacks(self):
+        return sum(block.kind == "output_terminal" and block["terminal_type"] != USB_STREAMING for block in self.entities.values())
+
     def plain_ways(self, terminal):
         """The output jacks that a USB terminal feeds through features and effects alone: for each the features on the way."""
         ways = {}

@@ -32,17 +32,34 @@ def bytes_of(samples, subslot):
 
 
 class Pipe:
-    """An endpoint of a stream that runs: the transfers that wait, and when one was there last."""
+    """An endpoint of a stream that runs, which is due each `period` microframes: the transfers that wait, and when one was there last."""
 
-    def __init__(self, address, now):
-        self.address, self.transfers, self.last = address, collections.deque(), now
+    def __init__(self, address, period, now):
+        self.address, self.period, self.transfers, self.last = address, period, collections.deque(), now
+
+    def until_due(self, age):
+        """In how many microframes it is due, from 1 on."""
+        return self.period - age % self.period
+
+    def count_due(self, age, microframes):
+        """How often it is due in so many microframes."""
+        return (age + microframes) // self.period - age // self.period
+
+    def reach(self, age, most):
+        """For how many of so many microframes the packets suffice that the host handed in."""
+        reach, wanted = self.until_due(age) - 1, most
+        for one in self.transfers:
+            if reach >= wanted:
+                break
+            reach += self.period * (len(one.packets) - one.at)
+        return min(reach, most)
 
 
 class InStream:
     """A stream from the device."""
 
     def __init__(self, form, now):
-        self.form, self.data, self.feedback = form, Pipe(form.data, now), None
+        self.form, self.data, self.feedback = form, Pipe(form.data, form.period, now), None
         self.age = self.packets = self.frames = self.lost = self.cut = 0
         self.is_closing = False
 
@@ -59,14 +76,15 @@ class OutStream:
     """A stream to the device: what waits, the track, and the ring, as far as what was printed tells of it."""
 
     def __init__(self, form, nominal, cushion, now, jack):
-        self.form, self.data, self.feedback = form, Pipe(form.data, now), Pipe(form.feedback, now)
+        self.form, self.data = form, Pipe(form.data, form.period, now)
+        self.feedback = Pipe(form.feedback, form.report_period, now)
         self.cushion, self.is_closing, self.has_sent = cushion, False, False
         self.waiting, self.track, self.skips, self.silence = collections.deque(), collections.deque(), 0, " ".join(["0"] * form.channels)
         self.packets = self.frames = self.odd = self.lost = self.over = self.under = self.gaps = 0
         self.reports, self.reports_lost, self.reports_unasked, self.least, self.most = 0, 0, 0, None, None
         # The jack that is listened to (None where there is none); frames that came out as sent, otherwise, and that nobody compared.
         self.jack, self.heard, self.otherwise, self.unjudged = jack, 0, 0, 0
-        self.count, self.sent, self.apart, self.is_plain = 0, 0, (0, 0), True
+        self.count, self.sent, self.apart, self.is_plain, self.is_whole = 0, 0, (0, 0), True, form.bits == 8 * form.subslot
         self.restart(nominal)
 
     pipes = property(lambda self: [self.data, self.feedback])
@@ -81,17 +99,19 @@ class OutStream:
 
     # ---- from the host
 
-    def take_packet(self, data):
-        """A packet of the host; its frames."""
-        whole = len(data) - len(data) % self.form.frame
-        self.odd += whole != len(data)
-        texts, channels = list(map(str, samples_of(data[:whole], self.form.subslot))), self.form.channels
-        self.waiting.extend(texts if channels == 1 else [" ".join(texts[at:at + channels]) for at in range(0, len(texts), channels)])
-        self.packets += 1
-        frames = whole // self.form.frame
-        self.frames += frames
-        self.has_sent = self.has_sent or frames > 0
-        return frames
+    def take_packets(self, one, count):
+        """So many of the next packets of a transfer wait from now on."""
+        pieces = []
+        for place, length in one.packets[one.at:one.at + count]:
+            whole = length - length % self.form.frame
+            self.odd += whole != length
+            pieces.append(one.data[place:place + whole])
+        texts, channels = list(map(str, samples_of(b"".join(pieces), self.form.subslot))), self.form.channels
+        frames = texts if channels == 1 else [" ".join(texts[at:at + channels]) for at in range(0, len(texts), channels)]
+        self.waiting.extend(frames)
+        self.packets += count
+        self.frames += len(frames)
+        self.has_sent = self.has_sent or bool(frames)
 
     def skip_packet(self):
         """The host skipped a packet."""
@@ -203,22 +223,26 @@ class OutStream:
         if word == "ok":
             self.ring.extend(taken)
 
-    def tick(self, text):
-        """A frame of the stream's jack came out."""
-        self.ticks += 1
-        frame = self.ring.popleft() if self.is_primed and self.ring else SILENT
-        is_sent = frame is not SILENT
+    def take_ticks(self, front, lines):
+        """Frames of the stream's jack came out, a line each, which begins with `front`."""
+        count = len(lines)
+        self.ticks += count
+        frames = [self.ring.popleft() for _ in range(min(count, len(self.ring)))] if self.is_primed else []
+        frames += [SILENT] * (count - len(frames))
+        sent = count - frames.count(SILENT)
         if not self.is_exact or not self.is_plain:
-            self.unjudged += is_sent
-        elif text == (self.cut(frame) if is_sent else self.silence):
-            self.heard += is_sent
-        else:
-            self.otherwise += 1
+            self.unjudged += sent
+            return
+        wanted = [front + (self.silence if frame is SILENT else frame if self.is_whole else self.cut(frame)) for frame in frames]
+        if wanted == lines:
+            self.heard += sent
+            return
+        for frame, want, line in zip(frames, wanted, lines):
+            self.otherwise += want != line
+            self.heard += want == line and frame is not SILENT
 
     def cut(self, frame):
         """A frame cut to the bits of the format."""
-        if self.form.bits == 8 * self.form.subslot:
-            return frame
         return " ".join(str(int(sample) >> 32 - self.form.bits << 32 - self.form.bits) for sample in frame.split(" "))
 
     def run_dry(self):

@@ -21,7 +21,8 @@ class Visit:
         self.device, self.wire, self.options, self.say = device, wire, options, say
         self.account = Account(device, peer, say)
         self.recording = Recording(options.out, f"{device.busid}-{device.name}", say)
-        self.bus = Bus(self.recording, self.send, options.cushion, options.losses, lambda form, nominal: HostPace(form.period, nominal))
+        self.bus = Bus(self.recording, self.send, options.cushion, options.losses, lambda form, nominal: HostPace(form.period, nominal),
+                       device.count_out_jacks() == 1)
         self.kept, self.console, self.broken, self.is_asked_to_end = dict(kept), collections.deque(), None, False
         self.controls, self.idle, self.settings, self.is_configured = collections.deque(), [], {}, False
         self.began, self.answers, self.program = None, [], None
