@@ -9,6 +9,8 @@ MICROFRAMES = 8000
 TURN, PATIENCE = 64, 0.5
 # So many microframes the end of a stream is played at most: a ring is primed and empty long before.
 LONGEST_END = 16000
+# A packet or report that nobody sent, asked for or got, as tools/script_of has it.
+LOST = "- lost -"
 
 
 def nominal_of(rate):
@@ -110,10 +112,12 @@ class Bus:
             if len(parts) != count:
                 raise Stopped(f"the program printed {len(parts)} microframes, and {count} were asked for")
             now = time.monotonic()
+            for stream in self.streams.values():
+                stream.data.answered = 0
             for part in parts:
                 self.microframe(part, now)
             told, self.told = "".join(self.told), []
-            self.recording.packets(told)
+            self.recording.bus(told)
         return count
 
     def asleep(self, now):
@@ -208,9 +212,10 @@ class Bus:
         for line in lines[end:]:
             if line:
                 self.take_line(line.split(" "), reports, formed)
-        for stream in self.streams.values():
-            if not stream.is_closing:
-                self.finish(stream, heard, reports, formed, now)
+        events = [event for stream in self.streams.values() if not stream.is_closing
+                  for event in self.finish(stream, heard, reports, formed, now)]
+        if events:
+            self.told.append(f"# bus {self.passed}: {', '.join(events)}\n")
 
     def take_ticks(self, lines):
         """The frames of jacks that came out."""
@@ -235,46 +240,46 @@ class Bus:
             stream.run_dry()
 
     def finish(self, stream, heard, reports, formed, now):
-        """What a stream's packet and report came to in this microframe, where they were due."""
-        interface, age = stream.form.interface, stream.age
-        if age % stream.data.period == 0:
-            pipe = stream.data
+        """What a stream's packet and report came to in this microframe, where they were due; in words, as tools/script_of has them."""
+        interface, age, pipe = stream.form.interface, stream.age, stream.data
+        if age % pipe.period == 0:
             one = pipe.transfers[0] if pipe.transfers else None
             if stream.form.is_out:
-                self.told.append(f"{self.time} o {interface} {self.finish_out(stream, one, formed.get(stream, 0))}\n")
+                yield f"o {interface} {self.finish_out(stream, one, formed.get(stream, 0))}"
             else:
-                self.told.append(f"{self.time} i {interface} {self.finish_in(stream, one, heard.get(interface, []))}\n")
+                yield f"i {interface} {self.finish_in(stream, one, heard.get(interface, []))}"
             if one is not None and one.at == len(one.packets):
                 self.complete(pipe, now)
-        if stream.feedback is not None and age % stream.feedback.period == 0:
-            pipe = stream.feedback
+        pipe = stream.feedback
+        if pipe is not None and age % pipe.period == 0:
             one = pipe.transfers[0] if pipe.transfers else None
-            self.told.append(f"{self.time} f {interface} {self.finish_report(stream, one, reports.get(stream))}\n")
+            yield f"f {interface} {self.finish_report(stream, one, reports.get(stream))}"
             if one is not None and one.at == len(one.packets):
                 self.complete(pipe, now)
 
     def complete(self, pipe, now):
         """The first transfer of an endpoint goes back to the host."""
+        one = pipe.transfers.popleft()
         pipe.last = now
-        self.answer(answer_of(pipe.transfers.popleft(), DONE))
+        pipe.answered += len(one.packets)
+        self.answer(answer_of(one, DONE))
 
     def finish_out(self, stream, one, formed):
         if one is None:
             # A packet that was skipped counts as what would have been sent.
             stream.measure(formed)
-            stream.judge.skip(formed)
-            return "-"
+            return LOST
         length = one.packets[one.at][1]
         frames = length // stream.form.frame
         one.end_packet(length=length)
         stream.measure(frames)
         stream.judge.packet(frames)
-        return f"{frames} {length}"
+        return f"{frames} ok {length}"
 
     def finish_in(self, stream, one, lines):
         if one is None:
             stream.lost += 1
-            return "-"
+            return LOST
         front = len(f"r {stream.form.interface} ")
         samples = " ".join([line[front:] for line in lines]).split()
         data = bytes_of(list(map(int, samples)), stream.form.subslot)
@@ -283,18 +288,19 @@ class Bus:
         stream.frames += len(lines)
         stream.cut += len(data) > room
         one.end_packet(data[:room], TOO_MUCH if len(data) > room else DONE)
-        return f"{len(lines)} {len(data)}"
+        return f"{len(lines)} ok {len(data)}"
 
     def finish_report(self, stream, one, value):
         if one is None:
             stream.reports_unasked += 1
-            return "-"
+            return LOST
         if value is None:
             stream.reports_lost += 1
             one.end_packet(status=NO_ANSWER)
-            return "lost"
-        one.end_packet(value.to_bytes(4, "little")[:one.packets[one.at][1]])
-        ahead = sum(len(waits.packets) - waits.at for waits in stream.data.transfers)
+            return LOST
+        data = value.to_bytes(4, "little")[:one.packets[one.at][1]]
+        one.end_packet(data)
+        ahead = sum(len(waits.packets) - waits.at for waits in stream.data.transfers) + stream.data.answered
         stream.hear_report(value)
         stream.judge.report(value, ahead)
-        return f"{value:08x}"
+        return f"{value:08x} ok {data.hex() or '-'}"

@@ -32,10 +32,11 @@ def bytes_of(samples, subslot):
 
 
 class Pipe:
-    """An endpoint of a stream that runs, which is due each `period` microframes: the transfers that wait, and when one was there last."""
+    """An endpoint of a stream that runs, which is due each `period` microframes: the transfers that wait, when one was there last, and
+    how many packets were answered in this turn."""
 
     def __init__(self, address, period, now):
-        self.address, self.period, self.transfers, self.last = address, period, collections.deque(), now
+        self.address, self.period, self.transfers, self.last, self.answered = address, period, collections.deque(), now, 0
 
     def until_due(self, age):
         """In how many microframes it is due, from 1 on."""

@@ -1,11 +1,13 @@
-"""What is kept of a host's visit: of each run the script, the transcript and the packets as the host made them, and a report.
+"""What is kept of a host's visit: of each run the script and the transcript, what went over the bus as the host made it, and a report.
 
 Without a folder nothing is kept. Where it can't be written, that is said once, and the visit goes on without it."""
-import os, subprocess
-from program import SILENCE, program_path
+import itertools, os, subprocess, threading
+from program import program_path
 from tool import Refused
 
-ENDS = ("script", "transcript", "packets")
+ENDS = ("script", "transcript")
+# A replay that takes more seconds has no end.
+LONGEST_REPLAY = 7200
 
 
 class Recording:
@@ -22,6 +24,7 @@ class Recording:
                 number += 1
             self.folder = os.path.join(folder, f"{name}-visit{number}")
             os.mkdir(self.folder)
+            self.files["bus"] = open(os.path.join(self.folder, "bus"), "wb", buffering=1 << 16)
         except OSError as why:
             self.give_up(why)
 
@@ -49,7 +52,7 @@ class Recording:
             self.give_up(why)
 
     def write(self, end, data):
-        if self.files:
+        if end in self.files:
             try:
                 self.files[end].write(data)
             except OSError as why:
@@ -61,12 +64,12 @@ class Recording:
     def heard(self, data):
         self.write("transcript", data)
 
-    def packets(self, text):
-        self.write("packets", text.encode())
+    def bus(self, text):
+        """What went over the bus, in the form of tools/script_of."""
+        self.write("bus", text.encode())
 
-    def end_run(self):
-        files, self.files = self.files, {}
-        for file in files.values():
+    def end_run(self, ends=ENDS):
+        for file in [self.files.pop(end) for end in ends if end in self.files]:
             try:
                 file.close()
             except OSError as why:
@@ -74,7 +77,7 @@ class Recording:
                     self.give_up(why)
 
     def report(self, text):
-        self.end_run()
+        self.end_run((*ENDS, "bus"))
         if self.folder is None:
             return
         try:
@@ -95,36 +98,34 @@ def scripts_in(folder):
     return found
 
 
-def first_difference(told, kept):
-    """The first line in which two transcripts differ: its number and both lines; None where they are the same."""
-    for number, (one, other) in enumerate(zip(told, kept), 1):
-        if one != other:
-            return number, one, other
-    if len(told) == len(kept):
-        return None
-    number = min(len(told), len(kept)) + 1
-    return number, told[number - 1] if len(told) >= number else None, kept[number - 1] if len(kept) >= number else None
-
-
 def spell(line):
-    return "nothing" if line is None else f"'{line.decode('ascii', 'replace')[:120]}'"
+    return "nothing" if line is None else f"'{line.decode('ascii', 'replace').rstrip()[:120]}'"
 
 
 def replay(path):
-    """Runs a script of a recording; what differs, as a sentence, None where it prints the transcript to the byte; and its lines."""
+    """Runs a script of a recording; what differs, as a sentence, None where it prints the transcript to the byte; and how many lines agree."""
     try:
-        with open(path, "rb") as script:
-            done = subprocess.run([program_path(), "run"], stdin=script, stdout=subprocess.PIPE, timeout=60 * SILENCE)
-        with open(path[:-7] + ".transcript", "rb") as file:
-            kept = file.read()
+        with open(path, "rb") as script, open(path[:-7] + ".transcript", "rb") as kept:
+            with subprocess.Popen([program_path(), "run"], stdin=script, stdout=subprocess.PIPE) as process:
+                limit = threading.Timer(LONGEST_REPLAY, process.kill)
+                limit.start()
+                try:
+                    return first_difference(process.stdout, kept)
+                finally:
+                    process.kill()
+                    limit.cancel()
     except OSError as why:
-        raise Refused(f"{path} can't be read with its transcript ({why.strerror})")
-    except subprocess.TimeoutExpired:
-        raise Refused(f"the program doesn't come to an end with {path}")
-    if done.stdout == kept:
-        return None, kept.count(b"\n")
-    number, one, other = first_difference(done.stdout.split(b"\n"), kept.split(b"\n"))
-    return f"line {number} of the transcript is {spell(one)} now, and was {spell(other)}", kept.count(b"\n")
+        raise Refused(f"{path} can't be replayed with its transcript ({why.strerror})")
+
+
+def first_difference(told, kept):
+    """The first line in which two transcripts differ, as a sentence, None where they are the same; and how many lines before it agree."""
+    number = 0
+    for one, other in itertools.zip_longest(told, kept):
+        if one != other:
+            return f"line {number + 1} of the transcript is {spell(one)} now, and was {spell(other)}", number
+        number += 1
+    return None, number
 
 
 def check(folder):

@@ -49,10 +49,10 @@ def set_interface(host, interface, setting):
 
 
 class Playing:
-    """A stream to the device: packets of noise by the reports. `played` has the bytes of all frames that were handed in."""
+    """A stream to the device: packets of noise by the reports, unless it doesn't follow them. `played` has the bytes of all frames that were handed in."""
 
-    def __init__(self, host, form, rate, seed=1):
-        self.host, self.form, self.value = host, form, rate * 65536 // MICROFRAMES
+    def __init__(self, host, form, rate, seed=1, follows=True):
+        self.host, self.form, self.value, self.follows = host, form, rate * 65536 // MICROFRAMES, follows
         self.parts = self.packets = self.reports = self.lost_reports = self.done = 0
         self.noise, self.played, self.is_ending, self.failed = random.Random(seed), [], False, 0
 
@@ -84,7 +84,7 @@ class Playing:
                 self.hand_in()
         elif answer.address == self.form.feedback:
             if answer.packets and answer.packets[0][2] == DONE and len(answer.data) == 4:
-                self.value = int.from_bytes(answer.data, "little")
+                self.value = int.from_bytes(answer.data, "little") if self.follows else self.value
                 self.reports += 1
             else:
                 self.lost_reports += 1

@@ -1,12 +1,12 @@
 """A host's visit: from the import of a device to its end, over one connection, with a run of the program behind it."""
 import collections, select, time
-from account import Account
 from bus import LONGEST_END, MICROFRAMES, TURN, Bus, nominal_of
 from device import GET_INTERFACE, SET_CONFIGURATION, SET_INTERFACE
 from host_pace import HostPace
 from program import Program, Stopped, lines_of_descriptor
 from recording import Recording
 from usbip import DONE, ENDED, NO_ANSWER, NO_ENDPOINT, STALLED, WRONG, ProtocolError, Transfer, answer_of, read_command, unlinked
+from visit_report import Account
 
 # What a host may have waiting at once, and the bytes of one request that fit a line.
 MOST_WAITING, MOST_SENT = 4096, 2000
@@ -42,6 +42,7 @@ class Visit:
             self.program.say(line + "\n")
 
     def begin(self):
+        self.recording.bus(f"# {self.device.busid}, {self.device.name}\n" + lines_of_descriptor(self.device.configuration) + "g\n")
         self.begin_run()
         self.comment(f"a visit of {self.account.peer} to {self.device.busid}, {self.device.name}")
 
@@ -187,8 +188,9 @@ class Visit:
         found, what = self.device.enumerate(setup, self.is_configured)
         if found is None:
             self.account.remark(f"stalled a {what}")
-        self.comment(f"{setup.hex()}{' ' + sent[:64].hex() if sent else ''}: a {what}, answered by the server with "
-                     f"{'a stall' if found is None else found[:512].hex() or 'done'}")
+        said = "stall" if found is None else f"bytes {found[:512].hex() or '-'}" if setup[0] & 0x80 else "done"
+        self.comment(f"{setup.hex()}{' ' + sent[:64].hex() if sent else ''}: a {what}, answered by the server; said {said}")
+        self.recording.bus(f"# {setup.hex()}: not of the audio function; said {said}\n")
         if (setup[0], setup[1]) == SET_CONFIGURATION and found is not None:
             self.is_configured = setup[2] != 0
             for interface in self.device.streaming:
@@ -205,6 +207,8 @@ class Visit:
             raise Stopped(f"the program answers '{answer}' to a transfer")
         if is_told:
             self.account.request(setup, sent, answer)
+            said = f"nothing, and the transfer ended with {NO_ANSWER}" if words[1] == "broken" else answer[2:].partition(" Q")[0]
+            self.recording.bus(f"c {setup.hex()}{' ' + sent[:MOST_SENT].hex() if sent else ''}\n# said {said}\n")
         if (setup[0], setup[1]) == SET_INTERFACE:
             self.follow_interface(setup, words[1])
         self.look_at_ways()
