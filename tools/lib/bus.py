@@ -271,7 +271,7 @@ class Bus:
             return LOST
         length = one.packets[one.at][1]
         frames = length // stream.form.frame
-        one.end_packet(length=length)
+        one.at += 1
         stream.measure(frames)
         stream.judge.packet(frames)
         return f"{frames} ok {length}"
@@ -280,9 +280,8 @@ class Bus:
         if one is None:
             stream.lost += 1
             return LOST
-        front = len(f"r {stream.form.interface} ")
-        samples = " ".join([line[front:] for line in lines]).split()
-        data = bytes_of(list(map(int, samples)), stream.form.subslot)
+        samples = " ".join(lines).replace(f"r {stream.form.interface} ", "").split()
+        data = bytes_of(map(int, samples), stream.form.subslot)
         room = one.packets[one.at][1]
         stream.packets += 1
         stream.frames += len(lines)

@@ -25,7 +25,10 @@ def bytes_of(samples, subslot):
     """The bytes of samples of 32 bits, of which the upper ones are sent."""
     if sys.byteorder != "little":
         return b"".join((sample >> 32 - 8 * subslot & (1 << 8 * subslot) - 1).to_bytes(subslot, "little") for sample in samples)
-    whole, room = array.array("i", samples).tobytes(), bytearray(len(samples) * subslot)
+    whole = array.array("i", samples).tobytes()
+    if subslot == 4:
+        return whole
+    room = bytearray(len(whole) // 4 * subslot)
     for at in range(subslot):
         room[at::subslot] = whole[4 - subslot + at::4]
     return bytes(room)

@@ -137,18 +137,22 @@ class Transfer:
         place, length = self.packets[self.at]
         return place, length, self.data[place:place + length]
 
-    def end_packet(self, data=b"", status=DONE, length=None):
-        """What became of the next packet; whether it was the last."""
+    def end_packet(self, data=b"", status=DONE):
+        """What became of the next packet from the device."""
         place, room = self.packets[self.at]
-        told = len(data) if length is None else length
-        self.done.append((place, room, told, status & 0xFFFFFFFF))
+        self.done.append((place, room, len(data), status & 0xFFFFFFFF))
         self.back.append(data)
         self.is_failed += status != DONE
         self.at += 1
-        return self.at == len(self.packets)
+
+    def packets_done(self):
+        """What became of each packet: those to the device that didn't fail were taken whole."""
+        return self.done or [(place, room, room, DONE) for place, room in self.packets]
 
     def fail(self, status):
         """All packets that are left fail."""
+        if self.packets and not self.is_in:
+            self.done = [(place, room, room, DONE) for place, room in self.packets[:self.at]]
         while self.packets and self.at < len(self.packets):
             self.end_packet(status=status)
 
@@ -186,8 +190,9 @@ def answer_of(one, status, data=b""):
     """The message that tells a host what became of its transfer."""
     packets = b""
     if one.packets is not None:
-        packets = b"".join(struct.pack(">IIII", *packet) for packet in one.done)
-        data, actual, count = b"".join(one.back), sum(packet[2] for packet in one.done), len(one.done)
+        done = one.packets_done()
+        packets = b"".join([struct.pack(">IIII", *packet) for packet in done])
+        data, actual, count = b"".join(one.back), sum([packet[2] for packet in done]), len(done)
     else:
         actual, count = (len(data) if one.is_in else one.length if status == DONE else 0), 0
     head = struct.pack(">IIIIIiiiii8x", SUBMITTED, one.number, 0, 0, 0, status, actual, 0, count, one.is_failed)
