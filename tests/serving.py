@@ -1,5 +1,5 @@
 """What the tests of tools/serve share: a server on a free port, its lines on standard error, and what a visit's transcript tells."""
-import functools, os, queue, re, signal, subprocess, sys, threading, time
+import functools, itertools, os, queue, re, signal, subprocess, sys, threading, time
 from needs import PROGRAM, TOP, as_lines
 sys.path.insert(0, os.path.join(TOP, "tools/lib"))
 
@@ -108,28 +108,62 @@ def visits(folder):
     return sorted(os.path.join(folder, name) for name in os.listdir(folder))
 
 
-def transcript(visit, run=""):
+def lines_of(visit, run=""):
+    """The lines of a transcript, one after the other: a minute of the bus has millions."""
     with open(os.path.join(visit, f"run{run}.transcript"), "r", encoding="ascii") as file:
-        return file.read().splitlines()
+        for line in file:
+            yield line.rstrip("\n")
+
+
+def transcript(visit, run=""):
+    return list(lines_of(visit, run))
+
+
+def each_frame(lines, mark):
+    """The samples of lines such as `p 4` or `r 2`, a tuple for each frame."""
+    front = mark + " "
+    for line in lines:
+        if line.startswith(front):
+            yield tuple(map(int, line[len(front):].split(" ")))
 
 
 def frames_of(lines, mark):
-    """The samples of lines such as `p 4` or `r 2`, a tuple for each frame."""
-    front = mark + " "
-    return [tuple(map(int, line[len(front):].split(" "))) for line in lines if line.startswith(front)]
+    return list(each_frame(lines, mark))
+
+
+def each_sample(pieces, form):
+    """The frames of a stream's bytes, each sample at the top of 32 bits."""
+    size = form.subslot
+    for data in pieces:
+        numbers = [int.from_bytes(data[at:at + size], "little", signed=True) << 32 - 8 * size for at in range(0, len(data), size)]
+        for at in range(0, len(numbers), form.channels):
+            yield tuple(numbers[at:at + form.channels])
 
 
 def samples(data, form):
-    """The frames of a stream's bytes, each sample at the top of 32 bits."""
-    size = form.subslot
-    numbers = [int.from_bytes(data[at:at + size], "little", signed=True) << 32 - 8 * size for at in range(0, len(data), size)]
-    return [tuple(numbers[at:at + form.channels]) for at in range(0, len(numbers), form.channels)]
+    return list(each_sample([data], form))
 
 
-def sounding(frames):
-    """The frames from the first that isn't silent to the last."""
-    loud = [at for at, frame in enumerate(frames) if any(frame)]
-    return frames[loud[0]:loud[-1] + 1] if loud else []
+def same_frames(told, wanted, of):
+    """That two rows of frames are the same, however long."""
+    count = 0
+    for one, other in itertools.zip_longest(told, wanted):
+        if one != other:
+            raise AssertionError(f"{of}: frame {count} is {one}, wanted {other}")
+        count += 1
+    return count
+
+
+def each_sounding(frames):
+    """The frames from the first that isn't silent to the last, one after the other."""
+    quiet, has_begun = [], False
+    for frame in frames:
+        if any(frame):
+            yield from quiet
+            quiet, has_begun = [], True
+            yield frame
+        elif has_begun:
+            quiet.append(frame)
 
 
 def replayed(folder):
