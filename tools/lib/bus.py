@@ -11,6 +11,8 @@ TURN, PATIENCE = 64, 0.5
 LONGEST_END = 16000
 # A packet or report that nobody sent, asked for or got, as tools/script_of has it.
 LOST = "- lost -"
+# How the lines begin that stand behind the ticks of a microframe.
+AFTER_TICKS = ("", "l", "f")
 
 
 def nominal_of(rate):
@@ -41,7 +43,7 @@ class Bus:
 
     def __init__(self, recording, answer, cushion, losses, judge_of, has_one_jack):
         self.recording, self.answer, self.cushion, self.losses, self.judge_of = recording, answer, cushion, losses, judge_of
-        self.streams, self.ended, self.listening, self.time, self.before, self.told = {}, [], {}, 0, 0, []
+        self.numbered, self.streams, self.ended, self.listening, self.time, self.before, self.told = {}, {}, [], {}, 0, 0, []
         # Whether only one jack plays, so that each line of a jack is one of its.
         self.has_one_jack = has_one_jack
 
@@ -58,7 +60,7 @@ class Bus:
             stream = InStream(form, now)
         stream.rate, stream.due_reports, stream.began, stream.ended = rate, 0, self.passed, None
         self.streams[form.interface] = stream
-        self.streams = dict(sorted(self.streams.items()))
+        self.number_streams()
         return stream
 
     def stop(self, interface):
@@ -68,8 +70,14 @@ class Bus:
             return []
         stream.ended = self.passed
         self.ended.append(stream)
+        self.number_streams()
         self.listening = {jack: one for jack, one in self.listening.items() if one is not stream}
         return [one for pipe in stream.pipes for one in pipe.transfers]
+
+    def number_streams(self):
+        """The streams by their interfaces, and by how lines name these."""
+        self.streams = dict(sorted(self.streams.items()))
+        self.numbered = {str(interface): stream for interface, stream in self.streams.items()}
 
     def pipe(self, address):
         """The endpoint of a running stream, None where none has this address."""
@@ -187,75 +195,76 @@ class Bus:
     def microframe(self, part, now):
         """The lines of one microframe: packets to the device, packets from it with their frames, ticks, levels, and reports."""
         self.time += 1
+        lines = part.split("\n")
+        at, end = 1, len(lines)
+        while lines[end - 1][:1] in AFTER_TICKS:
+            end -= 1
         for stream in self.streams.values():
             stream.begin_microframe()
-        lines, heard, reports, formed = part.split("\n"), {}, {}, {}
-        at, end = 1, len(lines)
-        while end > at and lines[end - 1][:1] in ("", "l", "f"):
-            end -= 1
         while at < end:
             line = lines[at]
             at += 1
             if line[0] == "p":
-                if "\nunder " not in part and "\nover " not in part:
-                    self.take_ticks(lines[at - 1:end])
-                    break
-                self.take_ticks([line])
-                continue
-            words = line.split(" ")
-            if words[0] == "i":
-                frames = int(words[2]) if words[3] == "ok" else 0
-                heard[int(words[1])] = lines[at:at + frames]
+                # Where a ring ran empty or over, that stands among the ticks, and each is taken by itself.
+                whole = "\nunder " not in part and "\nover " not in part
+                self.take_ticks(lines[at - 1:end] if whole else [line])
+                at = end if whole else at
+            elif line[0] == "i":
+                _, interface, count, word = line.split(" ")
+                frames = int(count) if word == "ok" else 0
+                stream = self.numbered.get(interface)
+                if stream is not None:
+                    stream.heard = lines[at:at + frames]
                 at += frames
             else:
-                self.take_line(words, reports, formed)
+                self.take_line(line.split(" "))
         for line in lines[end:]:
             if line:
-                self.take_line(line.split(" "), reports, formed)
-        events = [event for stream in self.streams.values() if not stream.is_closing
-                  for event in self.finish(stream, heard, reports, formed, now)]
-        if events:
-            self.told.append(f"# bus {self.passed}: {', '.join(events)}\n")
+                self.take_line(line.split(" "))
+        self.finish(now)
 
     def take_ticks(self, lines):
         """The frames of jacks that came out."""
         for front, stream in self.listening.items():
             stream.take_ticks(front, lines if self.has_one_jack else [line for line in lines if line.startswith(front)])
 
-    def take_line(self, words, reports, formed):
+    def take_line(self, words):
         """A line on a packet to the device, a level, a report, or a ring that ran empty or over."""
-        stream = self.streams.get(int(words[1]))
+        stream = self.numbered.get(words[1])
         if stream is None:
             return
         if words[0] == "o":
             stream.form_packet(int(words[2]), words[3])
-            formed[stream] = int(words[2])
         elif words[0] == "l":
             stream.settle(int(words[2]), words[3])
         elif words[0] == "f":
-            reports[stream] = int(words[2], 16) if words[3] == "ok" else None
+            stream.reported = int(words[2], 16) if words[3] == "ok" else None
             if stream.is_closing:
-                stream.value = reports[stream]
+                stream.value = stream.reported
         elif words[0] == "under":
             stream.run_dry()
 
-    def finish(self, stream, heard, reports, formed, now):
-        """What a stream's packet and report came to in this microframe, where they were due; in words, as tools/script_of has them."""
-        interface, age, pipe = stream.form.interface, stream.age, stream.data
-        if age % pipe.period == 0:
-            one = pipe.transfers[0] if pipe.transfers else None
-            if stream.form.is_out:
-                yield f"o {interface} {self.finish_out(stream, one, formed.get(stream, 0))}"
-            else:
-                yield f"i {interface} {self.finish_in(stream, one, heard.get(interface, []))}"
-            if one is not None and one.at == len(one.packets):
-                self.complete(pipe, now)
-        pipe = stream.feedback
-        if pipe is not None and age % pipe.period == 0:
-            one = pipe.transfers[0] if pipe.transfers else None
-            yield f"f {interface} {self.finish_report(stream, one, reports.get(stream))}"
-            if one is not None and one.at == len(one.packets):
-                self.complete(pipe, now)
+    def finish(self, now):
+        """What packets and reports came to in this microframe, where they were due; kept in words, as tools/script_of has them."""
+        events = []
+        for interface, stream in self.numbered.items():
+            if stream.is_closing:
+                continue
+            age, pipe = stream.age, stream.data
+            if age % pipe.period == 0:
+                one = pipe.transfers[0] if pipe.transfers else None
+                events.append(f"o {interface} {self.finish_out(stream, one)}" if stream.form.is_out
+                              else f"i {interface} {self.finish_in(stream, one)}")
+                if one is not None and one.at == len(one.packets):
+                    self.complete(pipe, now)
+            pipe = stream.feedback
+            if pipe is not None and age % pipe.period == 0:
+                one = pipe.transfers[0] if pipe.transfers else None
+                events.append(f"f {interface} {self.finish_report(stream, one, stream.reported)}")
+                if one is not None and one.at == len(one.packets):
+                    self.complete(pipe, now)
+        if events:
+            self.told.append(f"# bus {self.before + self.time}: {', '.join(events)}\n")
 
     def complete(self, pipe, now):
         """The first transfer of an endpoint goes back to the host."""
@@ -264,10 +273,10 @@ class Bus:
         pipe.answered += len(one.packets)
         self.answer(answer_of(one, DONE))
 
-    def finish_out(self, stream, one, formed):
+    def finish_out(self, stream, one):
         if one is None:
             # A packet that was skipped counts as what would have been sent.
-            stream.measure(formed)
+            stream.measure(stream.formed_last)
             return LOST
         length = one.packets[one.at][1]
         frames = length // stream.form.frame
@@ -276,7 +285,8 @@ class Bus:
         stream.judge.packet(frames)
         return f"{frames} ok {length}"
 
-    def finish_in(self, stream, one, lines):
+    def finish_in(self, stream, one):
+        lines = stream.heard
         if one is None:
             stream.lost += 1
             return LOST

@@ -1,7 +1,7 @@
 """A device as it is served: what its descriptor says of its interfaces, streams, clocks and jacks, and what enumeration is answered.
 
 What an audio request is answered, and what a stream carries, is the program's alone."""
-import os, struct
+import os, re, struct
 from controls import control_of, service_of
 from descriptor import cut, entities_of, settings_of
 from program import answer_once, lines_of_descriptor
@@ -18,6 +18,13 @@ SET_CONFIGURATION, SET_ADDRESS = (0x00, 9), (0x00, 5)
 GET_INTERFACE, SET_INTERFACE = (0x81, 10), (0x01, 11)
 # Features of the device and of endpoints, which change nothing here.
 FEATURES = ((0x00, 1), (0x00, 3), (0x02, 1), (0x02, 3))
+
+
+def name_of(path):
+    """The file's name without its ending; in sysfs, where all have the same, that of the device's folder."""
+    folder, name = os.path.split(os.path.abspath(path))
+    name = os.path.basename(folder) if name == "descriptors" else name.rpartition(".")[0] or name
+    return re.sub(r"[^A-Za-z0-9._-]", "_", name)[:60]
 
 
 class Format:
@@ -44,7 +51,7 @@ class Device:
 
     def __init__(self, path, data, busid, number):
         self.path, self.busid, self.number = path, busid, number
-        self.name = os.path.basename(path).rpartition(".")[0] or os.path.basename(path)
+        self.name = name_of(path)
         self.has_own = data[:2] == b"\x12\x01" and len(data) >= 18
         self.descriptor = data[:18] if self.has_own else OWN_DEVICE
         self.data, self.configuration = data, data[18:] if self.has_own else data
@@ -74,6 +81,7 @@ class Device:
             # Blocks of foreign interfaces are known by their bytes alone.
             if len(block.data) >= 3 and block.data[1] == 5:
                 self.endpoints.add(block.data[2])
+        self.of_streams = {end["address"] for setting in self.settings for end in setting["endpoint"]}
         for setting in self.settings:
             terminal = self.entities.get(setting.get("general") and setting["general"]["link"])
             is_whole = terminal is not None and setting.get("type_one") is not None and setting["endpoint"]
@@ -156,12 +164,15 @@ class Device:
         return bytes([2 + len(spelt), 3]) + spelt
 
     def is_for_program(self, setup):
-        """Whether the program answers a request: those of the audio function, and that for the configuration."""
+        """Whether the program answers a request: those of the audio function, also of its endpoints, those of interfaces that there aren't,
+        and that for the configuration."""
         kind, value, index = (setup[0], setup[1]), setup[2] | setup[3] << 8, setup[4] | setup[5] << 8
         if setup[0] in (0x21, 0xA1):
-            return setup[4] in self.audio
+            return setup[4] in self.audio or setup[4] not in self.codes
+        if setup[0] in (0x22, 0xA2):
+            return setup[4] in self.of_streams
         if kind in (GET_INTERFACE, SET_INTERFACE):
-            return index in self.audio
+            return index in self.audio or index not in self.codes
         return kind == GET_DESCRIPTOR and value == 0x0200
 
     def enumerate(self, setup, is_configured):

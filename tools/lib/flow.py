@@ -65,7 +65,7 @@ class InStream:
     def __init__(self, form, now):
         self.form, self.data, self.feedback = form, Pipe(form.data, form.period, now), None
         self.age = self.packets = self.frames = self.lost = self.cut = 0
-        self.is_closing = False
+        self.is_closing, self.heard = False, []
 
     pipes = property(lambda self: [self.data])
 
@@ -99,7 +99,8 @@ class OutStream:
         self.total = self.formed = self.ticks = self.since = 0
         self.waiting.extendleft(reversed(self.track))
         self.track, self.ring, self.is_primed, self.is_lost, self.is_exact = collections.deque(), collections.deque(), False, False, True
-        self.level, self.age, self.gained = 0, 0, 0
+        self.level = self.age = self.gained = self.formed_last = 0
+        self.reported = None
 
     # ---- from the host
 
@@ -212,6 +213,7 @@ class OutStream:
     def form_packet(self, frames, word):
         """The program's host formed a packet."""
         expected = (self.total >> 16) - self.formed
+        self.formed_last = frames
         self.formed += frames
         self.sent += frames
         self.is_exact = self.is_exact and frames == expected

@@ -191,7 +191,7 @@ def answer_of(one, status, data=b""):
     packets = b""
     if one.packets is not None:
         done = one.packets_done()
-        packets = b"".join([struct.pack(">IIII", *packet) for packet in done])
+        packets = struct.pack(f">{4 * len(done)}I", *[number for packet in done for number in packet])
         data, actual, count = b"".join(one.back), sum([packet[2] for packet in done]), len(done)
     else:
         actual, count = (len(data) if one.is_in else one.length if status == DONE else 0), 0

@@ -4,6 +4,8 @@ from request import Request
 from tool import rules
 
 SENTENCES = rules()
+# So many different stalls and remarks are kept of a visit.
+MOST_KEPT = 200
 
 
 def counted(count, what):
@@ -20,8 +22,8 @@ class Account:
         self.stalls, self.runs, self.microframes = collections.Counter(), [], 0
 
     def remark(self, text):
-        """Said at once, and once in the report."""
-        if text not in self.remarks:
+        """Said at once, and once in the report; only so many, since a host may ask anything."""
+        if text not in self.remarks and len(self.remarks) < MOST_KEPT:
             self.remarks.append(text)
             self.say(text)
 
@@ -58,7 +60,8 @@ class Account:
 
     def stall(self, what, rule):
         sentence = SENTENCES.get(rule)
-        self.stalls[what, rule] += 1
+        if len(self.stalls) < MOST_KEPT or (what, rule) in self.stalls:
+            self.stalls[what, rule] += 1
         self.say(f"stalled {what} by {rule}" + (f": {sentence}" if sentence else ""))
 
     def is_plain(self, features):
