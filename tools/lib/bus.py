@@ -23,7 +23,8 @@ def nominal_of(rate):
 def spell_samples(interface, frames, silence, channels):
     """The lines that put frames onto a track."""
     most = max(1, (LONGEST_LINE - 8) // (12 * channels))
-    return "".join(f"a {interface} {' '.join([frame or silence for frame in frames[at:at + most]])}\n" for at in range(0, len(frames), most))
+    pieces = (frames[at:at + most] for at in range(0, len(frames), most))
+    return "".join(f"a {interface} {' '.join([frame or silence for frame in piece])}\n" for piece in pieces)
 
 
 def spell_microframes(marks):

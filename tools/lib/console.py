@@ -79,7 +79,8 @@ def judge_clock(words, device):
 
 
 def judge_jack(words, device):
-    form = {("none", 3): (), ("ramp", 5): (BITS_32, BITS_32), ("noise", 4): ((0, 4294967295),)}.get((words[2] if len(words) > 2 else "", len(words)))
+    forms = {("none", 3): (), ("ramp", 5): (BITS_32, BITS_32), ("noise", 4): ((0, 4294967295),)}
+    form = forms.get((words[2] if len(words) > 2 else "", len(words)))
     if form is None:
         raise Refused("a jack's tone is set by 'j JACK none', 'j JACK ramp START STEP' or 'j JACK noise SEED'")
     if number_in(words[1], 0, 255, "a jack") not in device.jacks:

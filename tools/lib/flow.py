@@ -6,7 +6,8 @@ reached: so many silent frames stand in the track for it as the program's host w
 lost with it."""
 import array, collections, sys
 
-# What waits is frames, as their samples are spelt in a script, SILENT for one that nobody sent, and SKIP for a packet that the host skipped.
+# What waits is frames, as their samples are spelt in a script, SILENT for one that nobody sent, and SKIP for a packet that the host
+# skipped.
 SILENT, SKIP = None, "skip"
 
 

@@ -19,8 +19,8 @@ def program_path():
     """The built program. It is never built from here: that would prove every crate."""
     path = os.environ.get("UAC_CLI") or os.path.join(TOP, "crates/uac_cli/out/uac_cli")
     if not os.access(path, os.X_OK) or os.path.isdir(path):
-        raise Refused(f"the program isn't built: there is no {path} that can be run. './uac_cli check < examples/minimal.bin' builds it, and "
-                      "UAC_CLI=PROGRAM names one that stands elsewhere")
+        raise Refused(f"the program isn't built: there is no {path} that can be run. './uac_cli check < examples/minimal.bin' builds it, "
+                      "and UAC_CLI=PROGRAM names one that stands elsewhere")
     return path
 
 
@@ -76,7 +76,8 @@ class Program:
         piece = os.read(self.out, 1 << 18)
         if not piece:
             last = bytes(self.text).decode("ascii", "replace").rstrip("\n").rpartition("\n")[2]
-            raise Stopped(f"the program ended its run with status {self.process.wait(SILENCE)}" + (f" and the line '{last}'" if last else ""))
+            status = self.process.wait(SILENCE)
+            raise Stopped(f"the program ended its run with status {status}" + (f" and the line '{last}'" if last else ""))
         self.heard(piece)
         self.text += piece
 

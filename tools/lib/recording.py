@@ -103,7 +103,8 @@ def spell(line):
 
 
 def replay(path):
-    """Runs a script of a recording; what differs, as a sentence, None where it prints the transcript to the byte; and how many lines agree."""
+    """Runs a script of a recording; what differs, as a sentence, None where it prints the transcript to the byte; and how many lines
+    agree."""
     try:
         with open(path, "rb") as script, open(path[:-7] + ".transcript", "rb") as kept:
             with subprocess.Popen([program_path(), "run"], stdin=script, stdout=subprocess.PIPE) as process:

@@ -49,8 +49,8 @@ def set_interface(host, interface, setting):
 
 
 class Playing:
-    """A stream to the device: packets of noise by the reports, unless it doesn't follow them. `played` has the bytes of all frames that were
-    handed in."""
+    """A stream to the device: packets of noise by the reports, unless it doesn't follow them. `played` has the bytes of all frames that
+    were handed in."""
 
     def __init__(self, host, form, rate, seed=1, follows=True):
         self.host, self.form, self.value, self.follows = host, form, rate * 65536 // MICROFRAMES, follows

@@ -94,8 +94,8 @@ class Record:
         self.codes, self.interfaces = codes, interfaces
 
     def write(self, with_interfaces):
-        front = struct.pack(self.LAYOUT, self.path.encode(), self.busid.encode(), self.bus, self.device, self.speed, self.vendor, self.product,
-                            self.version, *self.codes, len(self.interfaces))
+        front = struct.pack(self.LAYOUT, self.path.encode(), self.busid.encode(), self.bus, self.device, self.speed, self.vendor,
+                            self.product, self.version, *self.codes, len(self.interfaces))
         return front + (b"".join(bytes(codes) + b"\0" for codes in self.interfaces) if with_interfaces else b"")
 
     @classmethod
@@ -249,8 +249,8 @@ class Host:
                 place += length
         length = room if room is not None else place if lengths is not None else len(data)
         self.waiting[self.number] = address
-        head = struct.pack(">IIIIIIiiIi8s", SUBMIT, self.number, self.record.bus << 16 | self.record.device, is_in, address & 15, 0, length, 0,
-                           count, 0, setup)
+        head = struct.pack(">IIIIIIiiIi8s", SUBMIT, self.number, self.record.bus << 16 | self.record.device, is_in, address & 15, 0,
+                           length, 0, count, 0, setup)
         self.wire.send(head + (b"" if is_in else data) + packets)
         return self.number
 

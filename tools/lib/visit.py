@@ -112,29 +112,31 @@ class Visit:
                 self.take_back(*message)
 
     def take(self, one):
-        """A transfer: it waits until it is its turn."""
-        pipe = self.bus.pipe(one.address)
-        if one.endpoint == 0:
-            waiting = self.controls
-        elif pipe is not None:
-            waiting, pipe.last = pipe.transfers, time.monotonic()
-        else:
-            waiting = self.idle
-        status = DONE
-        if pipe is not None and one.packets is None:
-            status = WRONG
-        elif waiting is self.idle and (one.packets is not None or one.address not in self.device.endpoints):
-            status = NO_ENDPOINT
-        if status != DONE:
+        """A transfer: it waits until it is its turn, or is refused at once."""
+        pipe = None if one.endpoint == 0 else self.bus.pipe(one.address)
+        status = self.refusal_of(one, pipe)
+        if status is not None:
             self.account.remark(f"a transfer of endpoint {one.address:#04x} was refused: " +
                                 ("it is isochronous" if status == WRONG else "no setting that runs has it"))
             self.refuse(one, status)
             return
+        waiting = self.controls if one.endpoint == 0 else self.idle
+        if pipe is not None:
+            waiting, pipe.last = pipe.transfers, time.monotonic()
         if waiting is self.idle:
-            self.account.remark(f"endpoint {one.address:#04x} isn't of audio 2.0: its transfers wait and are never answered")
+            self.account.remark(f"endpoint {one.address:#04x} isn't of a stream: its transfers wait and are never answered")
         if len(waiting) >= MOST_WAITING:
             raise ProtocolError(f"it handed in more than {MOST_WAITING} transfers of endpoint {one.address:#04x} at once")
         waiting.append(one)
+
+    def refusal_of(self, one, pipe):
+        """The state with which a transfer is refused; None where it may wait."""
+        if one.endpoint == 0:
+            return None
+        if pipe is not None:
+            return WRONG if one.packets is None else None
+        may_wait = one.packets is None and one.address in self.device.endpoints and one.address not in self.device.of_streams
+        return None if may_wait else NO_ENDPOINT
 
     def refuse(self, one, status):
         one.fail(status)

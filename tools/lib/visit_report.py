@@ -76,11 +76,13 @@ class Account:
         yield (f"stream {form.interface} setting {form.setting}, {form.in_words()}, {stream.rate} Hz, "
                f"microframes {stream.began} to {stream.ended}")
         if not form.is_out:
-            yield f"  {counted(stream.packets, 'packet')} to the host with {counted(stream.frames, 'frame')}, {stream.lost} that nobody asked for"
+            yield (f"  {counted(stream.packets, 'packet')} to the host with {counted(stream.frames, 'frame')}, "
+                   f"{stream.lost} that nobody asked for")
             if stream.cut:
                 yield f"  {counted(stream.cut, 'packet')} longer than the host asked for, and cut"
             return
-        yield f"  {counted(stream.packets, 'packet')} of the host with {counted(stream.frames, 'frame')}, {counted(stream.lost, 'packet')} lost"
+        yield (f"  {counted(stream.packets, 'packet')} of the host with {counted(stream.frames, 'frame')}, "
+               f"{counted(stream.lost, 'packet')} lost")
         yield (f"  {counted(stream.reports, 'report')} given" +
                ("" if stream.least is None else f", of {stream.least / 65536:.4f} to {stream.most / 65536:.4f} frames a microframe") +
                f"; {stream.reports_lost} lost, {stream.reports_unasked} that nobody asked for")
@@ -102,7 +104,8 @@ class Account:
         return line + (f", {left} never came out" if left > 0 else "")
 
     def lines(self, streams):
-        yield f"{self.device.busid} {self.device.name}, a visit of {self.peer}: {counted(len(self.runs), 'run')}, {self.microframes} microframes"
+        yield (f"{self.device.busid} {self.device.name}, a visit of {self.peer}: {counted(len(self.runs), 'run')}, "
+               f"{self.microframes} microframes")
         if self.asked:
             yield "asked: " + ", ".join(f"{name} {count}" for name, count in sorted(self.asked.items()))
         for target, count in self.set.items():
