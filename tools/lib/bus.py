@@ -5,8 +5,9 @@ from program import LONGEST_LINE, Stopped
 from usbip import DONE, NO_ANSWER, TOO_MUCH, answer_of
 
 MICROFRAMES = 8000
-# The most microframes of a turn, and how long an endpoint's transfers are waited for while others go on.
-TURN, PATIENCE = 64, 0.5
+# The most microframes of a turn, how long an endpoint's transfers are waited for while others go on, and from when on a host that has
+# handed in nothing is taken to pause, and not to be late.
+TURN, PATIENCE, PAUSE = 64, 0.5, 0.125
 # So many microframes the end of a stream is played at most: a ring is primed and empty long before.
 LONGEST_END = 16000
 # A packet or report that nobody sent, asked for or got, as tools/script_of has it.
@@ -115,6 +116,9 @@ class Bus:
         """As many microframes as the host's transfers allow; how many that were."""
         now = time.monotonic()
         asleep = self.asleep(now)
+        for stream in self.streams.values():
+            if stream.form.is_out and not stream.data.transfers and now - stream.data.last >= PAUSE:
+                stream.judge.pause()
         count = self.reach(most, asleep)
         if count:
             parts = ("\n" + program.turn(self.text_of(count, asleep))).split("\nu ")[1:]
