@@ -89,7 +89,7 @@ class OutStream:
         self.reports, self.reports_lost, self.reports_unasked, self.least, self.most = 0, 0, 0, None, None
         # The jack that is listened to (None where there is none); frames that came out as sent, otherwise, and that nobody compared.
         self.jack, self.heard, self.otherwise, self.unjudged = jack, 0, 0, 0
-        self.count, self.sent, self.apart, self.is_plain, self.is_whole = 0, 0, (0, 0), True, form.bits == 8 * form.subslot
+        self.count, self.apart, self.is_plain, self.is_whole = 0, (0, 0), True, form.bits == 8 * form.subslot
         self.restart(nominal)
 
     pipes = property(lambda self: [self.data, self.feedback])
@@ -216,7 +216,6 @@ class OutStream:
         expected = (self.total >> 16) - self.formed
         self.formed_last = frames
         self.formed += frames
-        self.sent += frames
         self.is_exact = self.is_exact and frames == expected
         taken = [self.track.popleft() for _ in range(min(frames, len(self.track)))]
         missing = frames - len(taken)

@@ -100,7 +100,8 @@ class Account:
         left = stream.frames - stream.heard - stream.otherwise - stream.unjudged
         line = f"jack {stream.jack}: {counted(stream.heard, 'frame')} came out as sent, {stream.otherwise} otherwise"
         if stream.unjudged:
-            line += f", {stream.unjudged} not compared, since a feature on the way wasn't at 0 dB"
+            why = "a feature on the way wasn't at 0 dB" if stream.is_exact else "the ring's level isn't what was put into it"
+            line += f", {stream.unjudged} not compared, since {why}"
         return line + (f", {left} never came out" if left > 0 else "")
 
     def lines(self, streams):
