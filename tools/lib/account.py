@@ -50,7 +50,7 @@ def own_rows(verdict):
 
 
 def stream_rows(verdict):
-    rows = [("Stream", "Rate", "Packets", "Lost", "Frames", "Reports", "Lost", "Values, frames", "Mean rate", "Off by")]
+    rows = [("Stream", "Rate", "Packets", "Lost", "Frames", "Reports", "Lost", "Values, frames", "Mean rate", "Off by", "Ahead")]
     for run in verdict.streams.runs:
         row = run.row()
         if not row["packets"] and not row["reports"]:
@@ -60,7 +60,7 @@ def stream_rows(verdict):
         values = "" if row["least_value"] is None else f"{in_frames(row['least_value'])} to {in_frames(row['most_value'])}"
         rows.append((f"{row['interface']} {row['direction']} setting {row['setting']}", f"{row['rate'] or 'unknown'}", str(row["packets"]),
                      str(row["lost"]), frames, *reports, values, "" if row["mean_rate"] is None else f"{row['mean_rate']:.1f}",
-                     "" if row["ppm"] is None else f"{row['ppm']:+.0f} ppm"))
+                     "" if row["ppm"] is None else f"{row['ppm']:+.0f} ppm", "" if row["beforehand"] is None else str(row["beforehand"])))
     return rows
 
 

@@ -39,12 +39,10 @@ def moves_by_itself(kind, selector):
 def bits_of(block, selector, channel):
     """The two bits that declare a control on a channel; None where nothing is claimed of them, -1 where the standard has no such control
     or the block has no such channel."""
-    if block.kind not in CONTROLS_OF:
-        return None
-    known = CONTROLS_OF[block.kind].get(selector)
+    known = CONTROLS_OF.get(block.kind, {}).get(selector)
     if known is None:
-        return -1
-    words = words_of(block)
-    if known[1] is None or block.kind != "feature" and channel != 0:
+        return -1 if block.kind in CONTROLS_OF else None
+    if known[1] is None:
         return None
+    words = words_of(block) if block.kind == "feature" else words_of(block)[:1]
     return words[channel] >> 2 * known[1] & 3 if channel < len(words) else -1

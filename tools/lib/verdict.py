@@ -65,6 +65,8 @@ class Verdict:
         request = Request(kept.setup, kept.sent, self.blocks)
         if not request.is_judged:
             self.passed_over += 1
+            if kept.setup[:2] == b"\x00\x09" and kept.said is not None and kept.said.kind == "done":
+                self.told.configured()
         elif kept.said is None or kept.said.kind == "broken":
             self.broken(kept, request)
         else:
@@ -111,17 +113,16 @@ class Verdict:
         return rule if rule in ABSENT else None
 
     def rule_of_other(self, kept, request):
-        """The rule for a control that the program doesn't play, by the standard's list."""
+        """The rule for a control that the program doesn't play, or whose range it doesn't tell, by the standard's list."""
         if request.entity is None:
-            return "Q4" if request.of_interface is None else None
-        if request.control is not None:
-            return None
+            return "Q4" if request.of_interface is None else "Q6" if request.channel else None
         bits = bits_of(request.entity, request.selector, request.channel)
         if bits == -1:
             return "Q4" if standard_name(request.entity.kind, request.selector) is None else "Q6"
         if bits == 0:
             return "Q5"
-        self.alone("other-control", kept, request, "a control that the program doesn't play")
+        if request.control is None:
+            self.alone("other-control", kept, request, "a control that the program doesn't play")
         return "Q7" if bits == 1 and request.name == "SET CUR" else None
 
     # ---- values
@@ -133,7 +134,8 @@ class Verdict:
         if self.is_absent(kept, request, answer):
             return
         if said.kind == "stall":
-            if request.control is None or request.control.name not in ("node", "enable"):
+            is_there = answer is not None and answer.startswith("bytes")
+            if is_there and (request.control is None or request.control.name not in ("node", "enable")):
                 self.wrong("stall", kept, request, "an answer", "The control is declared, so it can be read")
             return
         if not self.has_length(kept, request):
@@ -154,13 +156,12 @@ class Verdict:
             setting = self.told.settings.get(request.setup[4])
             return self.proved.ask_in_setting(request.setup, request.setup[4], setting or 0)
         answer = self.ask(request)
-        if known is None or not answer.startswith("bytes ") or answer == self.front_of(known, request):
+        if known is None or not answer.startswith("bytes ") or answer == self.front_of(known, request) or self.moves(request):
             return answer
-        if self.moves(request) or not is_settable(request):
-            return answer
-        if not self.proved.hold(request, known):
-            self.alone("value", kept, request, f"the program can't hold {self.spell_bytes(known, request)}")
-        return self.ask(request)
+        if request.control is not None and request.control.element is not None and self.proved.hold(request, known):
+            return self.ask(request)
+        self.alone("value", kept, request, f"the program can't hold {self.spell_bytes(known, request)}")
+        return answer
 
     def front_of(self, data, request):
         return f"bytes {data[:request.length].hex() or '-'}"
@@ -229,7 +230,6 @@ class Verdict:
             self.own("range", kept, request, answer, "Its range is its own")
         if len(said.data) > len(known):
             self.told.ranges[key] = said.data
-            self.told.starts.setdefault(key, None)
 
     def has_whole_ranges(self, kept, request):
         """Whether an answer is no longer than was asked for, as long as its number of subranges says, and each has MIN no greater than MAX."""
@@ -340,7 +340,8 @@ class Verdict:
         if self.is_absent(kept, request, answer):
             return
         if kept.said.kind == "stall":
-            self.wrong("stall", kept, request, "its setting", "An interface tells its setting", STANDARD_REQUESTS)
+            if answer is not None:
+                self.wrong("stall", kept, request, "its setting", "An interface tells its setting", STANDARD_REQUESTS)
         elif kept.said.kind == "overflow" or len(kept.said.data) != 1:
             self.wrong("other-length", kept, request, "1 byte", "A setting has one byte", STANDARD_REQUESTS)
         else:
