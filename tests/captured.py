@@ -69,7 +69,8 @@ def test_a_real_stream(_):
     lines = tool("script_of", REAL + ".pcap").stdout.decode().split("\n")
     same([line for line in lines if line.startswith("m ")], ["m 938", "m 6 o1"], "script_of")
     events = [event for line in lines if line.startswith("# bus ") for event in line.partition(": ")[2].split(", ")]
-    same((sum(event.startswith("o 1 6 ok 36 after ") for event in events), events.count("f 1 00060000 ok 00000600")), (938, 118), "script_of")
+    packets, reports = sum(event.startswith("o 1 6 ok 36 after ") for event in events), events.count("f 1 00060000 ok 00000600")
+    same((packets, reports), (938, 118), "script_of")
 
 
 def test_full_speed(folder):
@@ -220,7 +221,8 @@ def test_usbpcap(_):
         done = tool("script_of", "-", data=pcap(packets, 249))
         lines = done.stdout.decode().partition("\ng\n")[2].split("\n")[2:-1]
         wanted = ["c 2101010200030200 00f6", "# said done", "c a101000200030200", "# said stall", *START]
-        wanted += [f"# bus {at}: o 1 6 ok 36 after 0" for at in range(1, 8)] + ["# bus 8: o 1 6 ok 36 after 0, f 1 00060000 ok 00000600", "m 8"]
+        wanted += [f"# bus {at}: o 1 6 ok 36 after 0" for at in range(1, 8)]
+        wanted += ["# bus 8: o 1 6 ok 36 after 0, f 1 00060000 ok 00000600", "m 8"]
         wanted += [f"# bus {at}: o 1 6 lost 36 after 1" for at in range(9, 17)] + ["m 8 o1 f1", *STOP]
         same(lines, wanted, "script_of")
 

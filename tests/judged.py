@@ -1,12 +1,14 @@
-"""Tests of tools/judge: captures of correct devices, and ones made from them by changing one answer, packet or report; tests/tools runs them."""
+"""Tests of tools/judge: captures of correct devices, and ones made from them by changing one answer, packet or report; tests/tools runs
+them."""
 import functools, json, re, struct
+from devices import answered_by_program, random_script
 from making import joined, records
 from needs import as_lines, why_missing
 from tooling import example, need, one_sentence, same, tool
 
 GADGET = "tests/captures/f_uac2-bint1-s24-48k"
 HEADSET = "tests/captures/linux-host-headset"
-RANGE, SHORT_RANGE = "010000a000000001", "0100009c00000001"
+CONTRADICTS, STANDARD = "contradicts itself", "standard"
 
 
 @functools.lru_cache(None)
@@ -23,7 +25,8 @@ def judged(script, *words):
 
 def wrong_of(told):
     """What is wrong, as kind, rule, field and count."""
-    return [(one["kind"], one["rule"], one["field"], one["count"]) for one in told["findings"] if one["kind"] in ("standard", "contradicts itself")]
+    wrong = [one for one in told["findings"] if one["kind"] in (STANDARD, CONTRADICTS)]
+    return [(one["kind"], one["rule"], one["field"], one["count"]) for one in wrong]
 
 
 def answered(script, line, value, number=1, count=1):
@@ -75,14 +78,24 @@ def test_what_is_a_devices_own(_):
                    answered(headset, "a101000200010100", "bytes 00", 2), answered(headset, "a101000200010100", "bytes 00", 1),
                    without_streams(headset).replace("80bb0000", "00770100"),
                    gadget.replace("9c00000001", "9000000001"), answered(gadget, "a101000200060200", "bytes 0080"),
-                   answered(gadget, "a101000100050100", "bytes 01"), gadget.replace("80bb0000", "00770100"), gadget.replace("80bb0000", "d0fb0100")):
+                   answered(gadget, "a101000100050100", "bytes 01"), gadget.replace("80bb0000", "00770100"),
+                   gadget.replace("80bb0000", "d0fb0100")):
         assert script not in (headset, gadget)
         only(script)
 
 
+def test_the_program_is_a_correct_device(_):
+    """Whatever it is asked, and whatever is lost: nothing is wrong, and nothing is other than the profile."""
+    need("streams")
+    for seed, name in enumerate(("headset", "composite-uac2-midi", "f_uac2-default")):
+        data = example(f"examples/{name}.bin")
+        script = answered_by_program(data, random_script(seed, data, 60))
+        done = tool("judge", "-", "--profile", data=script.encode())
+        same((done.returncode, done.stderr), (0, b""), f"judge of {name}: {done.stdout.decode()}")
+
+
 # ---- one answer that is wrong
 
-CONTRADICTS, STANDARD = "contradicts itself", "standard"
 PLANTED = [
     ("a101010200030200", "bytes 0001", 1, CONTRADICTS, "out-of-range", "GET CUR volume.3.1"),
     ("a101010200030200", "bytes 00fe", 2, CONTRADICTS, "other-value", "GET CUR volume.3.1"),
@@ -166,13 +179,12 @@ def as_script(lines, name="headset"):
 def test_values_that_the_program_cannot_hold(_):
     """A rate that is none of the twelve, and a quarter of a decibel: the device holds them, and is judged by its own words."""
     need("transfers")
-    lines = ["c 2101000100010400 00710200", "# said done", "c a101000100010400", "# said bytes 00710200", "c 2101010200030200 4000", "# said done",
-             "c a101010200030200", "# said bytes 4000"]
+    lines = ["c 2101000100010400 00710200", "# said done", "c a101000100010400", "# said bytes 00710200",
+             "c 2101010200030200 4000", "# said done", "c a101010200030200", "# said bytes 4000"]
     done = tool("judge", "-", "--json", data=as_script(lines))
     told = json.loads(done.stdout)
-    same((done.returncode, [(one["kind"], one["field"]) for one in told["findings"]]),
-         (0, [("limit", "SET CUR rate.1.0 160000"), ("limit", "GET CUR rate.1.0"), ("limit", "SET CUR volume.3.1 64"), ("limit", "GET CUR volume.3.1")]),
-         "judge")
+    limits = ["SET CUR rate.1.0 160000", "GET CUR rate.1.0", "SET CUR volume.3.1 64", "GET CUR volume.3.1"]
+    same((done.returncode, [(one["kind"], one["field"]) for one in told["findings"]]), (0, [("limit", field) for field in limits]), "judge")
     told = json.loads(tool("judge", "-", "--json", data=as_script([*lines[:-1], "# said bytes 0000"])).stdout)
     same(wrong_of(told), [(CONTRADICTS, "other-value", "GET CUR volume.3.1", 1)], "judge")
 
@@ -241,18 +253,19 @@ def test_streams_to_the_device(_):
     streams_are(streamed(plain))
     for event in ("o 1 7 ok 42", "o 1 5 ok 30", "o 1 6 lost 36", "o 1 - lost -"):
         streams_are(streamed(changed(plain, 99, event)))
-    for event, wanted in (("o 1 8 ok 48", stream_wrong("host-parts", "host")), ("o 1 4 ok 24", stream_wrong("host-parts", "host")),
-                          ("o 1 6 ok 37", stream_wrong("packet-not-whole", "host")), ("o 1 26 ok 156", stream_wrong("packet-too-large", "host"))):
-        told = streams_are(streamed(changed(plain, 99, event)), wanted)
+    for event, rule in (("o 1 8 ok 48", "host-parts"), ("o 1 4 ok 24", "host-parts"), ("o 1 6 ok 37", "packet-not-whole"),
+                        ("o 1 26 ok 156", "packet-too-large")):
+        told = streams_are(streamed(changed(plain, 99, event)), stream_wrong(rule, "host"))
         assert told["findings"][0]["field"].endswith("microframe 99"), told["findings"][0]
 
 
 def test_reports(_):
     need("streams")
     plain = microframes(400)
-    for event, wanted in (("f 1 000006 ok 000006", stream_wrong("report-length")), ("f 1 0000060000 ok 0000060000", stream_wrong("report-length")),
-                          ("f 1 00050000 ok 00000500", ("warning", "stream-report-out-of-band", "device", 1)),
-                          ("f 1 06000000 ok 00000006", ("warning", "stream-report-out-of-band", "device", 1))):
+    out_of_band = "warning", "stream-report-out-of-band", "device", 1
+    for event, wanted in (("f 1 000006 ok 000006", stream_wrong("report-length")),
+                          ("f 1 0000060000 ok 0000060000", stream_wrong("report-length")),
+                          ("f 1 00050000 ok 00000500", out_of_band), ("f 1 06000000 ok 00000006", out_of_band)):
         streams_are(streamed(changed(plain, 96, f"o 1 6 ok 36, {event}")), wanted)
     for event in ("f 1 - ok -", "f 1 - lost -", "f 1 00060020 ok 20000600", "f 1 - untold -"):
         streams_are(streamed(changed(plain, 96, f"o 1 6 ok 36, {event}")))
@@ -275,17 +288,17 @@ def paced(values, ahead, count=4000, is_told=True, follows=True):
 
 
 def test_hosts(_):
-    """Hosts that follow the reports, packets handed in beforehand allowed for; one that doesn't is told with the microframe at which it parts:
-    1,000 65,536ths too few in each from the ninth on come to a frame after 65 more."""
+    """Hosts that follow the reports, packets handed in beforehand allowed for; one that doesn't is told with the microframe at which it
+    parts: 1,000 65,536ths too few in each from the ninth on come to two whole frames with the 132nd."""
     need("streams")
     for values in ([394216], [393216, 394216, 396216, 392016]):
         for ahead in (0, 20, 85):
             for is_told in (True, False):
                 told = streams_are(streamed(paced(values, ahead, is_told=is_told)))
                 beforehand = told["streams"][0]["beforehand"]
-                assert abs(beforehand - ahead) <= 8 if is_told else beforehand <= ahead, f"{beforehand} packets beforehand, {ahead} were"
+                assert beforehand == ahead if is_told else beforehand <= ahead, f"{beforehand} packets beforehand, {ahead} were"
     told = streams_are(streamed(paced([394216], 0, follows=False)), stream_wrong("host-parts", "host"))
-    same(told["findings"][0]["field"], "interface 1's stream to the device, microframe 74", "judge")
+    same(told["findings"][0]["field"], "interface 1's stream to the device, microframe 140", "judge")
 
 
 def test_streams_from_the_device(_):
@@ -294,8 +307,9 @@ def test_streams_from_the_device(_):
     streams_are(streamed(plain, 2))
     for event in ("i 2 7 ok 14", "i 2 5 ok 10", "i 2 - lost -"):
         streams_are(streamed(changed(plain, 99, event), 2))
-    for event, rule in (("i 2 8 ok 16", "packet-off-the-mean"), ("i 2 0 ok 0", "packet-off-the-mean"), ("i 2 4 ok 8", "packet-off-the-mean"),
-                        ("i 2 6 ok 13", "packet-not-whole"), ("i 2 26 ok 52", "packet-too-large")):
+    off = "packet-off-the-mean"
+    for event, rule in (("i 2 8 ok 16", off), ("i 2 0 ok 0", off), ("i 2 4 ok 8", off), ("i 2 6 ok 13", "packet-not-whole"),
+                        ("i 2 26 ok 52", "packet-too-large")):
         told = streams_are(streamed(changed(plain, 99, event), 2), stream_wrong(rule))
         assert told["findings"][0]["field"].endswith("microframe 99"), told["findings"][0]
 
@@ -310,7 +324,8 @@ def test_full_speed_streams(_):
     four = microframes(80, "o 1 25 ok 150", "f 1 00190000 ok 00001900")
     told = streams_are(head + streamed(four, rate="a8610000"), ("warning", "stream-report-of-four-bytes", "device", 10))
     assert "some firmware sends 4 on purpose" in told["findings"][0]["text"]
-    streams_are(head + streamed(microframes(80, "o 1 25 ok 150", "f 1 1900 ok 0019"), rate="a8610000"), stream_wrong("report-length", count=10))
+    short = microframes(80, "o 1 25 ok 150", "f 1 1900 ok 0019")
+    streams_are(head + streamed(short, rate="a8610000"), stream_wrong("report-length", count=10))
 
 
 def test_planted_in_a_capture(_):
@@ -341,7 +356,8 @@ def test_judge_of_what_is_none(_):
     text = as_script(["c 8006000200000900", "# said bytes 090213010401008032", "zz"])
     one_sentence(tool("judge", "-", data=text), 2, "line 11 is no line of a script (S2): it begins with none of the letters d g c h")
     one_sentence(tool("judge", "-", data=as_script(["c 8006000200000900"])), 2, "keeps no answer of a device")
-    one_sentence(tool("judge", "-", data=as_script(["c c000000000000000", "# said done"])), 2, "keeps no answer of a device's audio function")
+    done = tool("judge", "-", data=as_script(["c c000000000000000", "# said done"]))
+    one_sentence(done, 2, "keeps no answer of a device's audio function")
     one_sentence(tool("judge", "-", "--speed", "super", data=text), 2, "no speed super: high or full is wanted")
     for line in ("# bus 1: x 1 6 ok 36", "# bus 1: o 1", "# bus 1: o a 6 ok 36", "# said bytes 0", "c 00", "d 0"):
         front = "c 8006000200000900\n" if line.startswith("# said") else ""

@@ -64,13 +64,10 @@ def stream_rows(verdict):
     return rows
 
 
-def table(rows):
-    """Rows as lines, each column as wide as its widest cell; columns with nothing below their heads are left out."""
-    filled = [at for at in range(len(rows[0])) if any(row[at] for row in rows[1:])]
-    rows = [[row[at] for at in filled] for row in rows]
-    widths = [max(len(row[at]) for row in rows) for at in range(len(rows[0]))]
-    for row in rows:
-        yield ("  " + "  ".join(cell.ljust(width) for cell, width in zip(row, widths))).rstrip()
+def filled(rows):
+    """The rows without columns that have nothing below their heads."""
+    kept = [at for at in range(len(rows[0])) if any(row[at] for row in rows[1:])]
+    return [[row[at] for at in kept] for row in rows]
 
 
 def account_of(name, status, verdict, script, refusal, kinds):

@@ -126,7 +126,8 @@ def take_burst_of_text(assembly, words, device, endpoint):
         assembly.hand_in(words[0], device, [length for _, length in packets])
         return
     codes = [int(code) for code in words[4].split(":")]
-    burst = Burst(device, endpoint, codes[0], int(words[1]), codes[2] if len(codes) > 2 else None, packets, codes[3] if len(codes) > 3 else 0)
+    start, failed = codes[2] if len(codes) > 2 else None, codes[3] if len(codes) > 3 else 0
+    burst = Burst(device, endpoint, codes[0], int(words[1]), start, packets, failed)
     if endpoint & 0x80 and rest[1:2] == ["="]:
         burst.keep_data(bytes.fromhex("".join(rest[2:])), places)
     assembly.take(words[0], burst)
@@ -241,7 +242,8 @@ def of_pcap(data, assembly):
     elif link == USBPCAP:
         of_usbpcap(records, assembly)
     else:
-        raise Refused(f"the capture has link type {link}: one of USB is wanted ({USBMON}, usbmon under Linux, or {USBPCAP}, USBPcap under Windows)")
+        raise Refused(f"the capture has link type {link}: one of USB is wanted ({USBMON}, usbmon under Linux, or {USBPCAP}, USBPcap under "
+                      "Windows)")
 
 
 # ---- any capture

@@ -1,8 +1,8 @@
 """What isochronous packets make of a script: lines `m` for the microframes that went by, with what was lost in them, and in front of each,
 as comments, what went over the bus.
 
-A comment '# bus 8: o 1 6 ok 36 after 2, f 1 00060000 ok 00000600' tells of microframe 8 (from 1): a packet to interface 1 with 6 frames, which
-came over, with 36 bytes, handed in by the host after it had heard 2 reports; and a report of interface 1, its value and its bytes.
+A comment '# bus 8: o 1 6 ok 36 after 2, f 1 00060000 ok 00000600' tells of microframe 8 (from 1): a packet to interface 1 with 6 frames,
+which came over, with 36 bytes, handed in by the host after it had heard 2 reports; and a report of interface 1, its value and its bytes.
 A packet from interface 2 is 'i 2 6 ok 12'. What was lost has 'lost' in place of 'ok', and what the capture doesn't keep 'untold'.
 
 The host's driver hands packets in by bursts. A burst goes on where the one before ended, or later by what its own place says; where a
@@ -23,7 +23,7 @@ BEHIND = 64
 
 
 class End:
-    """An endpoint of a stream: the letter of its marks, how many microframes a packet has, and the bytes of a frame (None where unknown)."""
+    """An endpoint of a stream: the letter of its marks, how many microframes a packet has, and the bytes of a frame (None: unknown)."""
 
     def __init__(self, setting, endpoint):
         self.letter = "f" if endpoint["attributes"] >> 4 & 3 == 1 else "i" if endpoint["address"] & 0x80 else "o"

@@ -1,5 +1,5 @@
-"""A script as tools/script_of makes it, read: the descriptor, the transfers with what the real device said of each, and what its comments keep
-of packets, reports and interrupt messages."""
+"""A script as tools/script_of makes it, read: the descriptor, the transfers with what the real device said of each, and what its comments
+keep of packets, reports and interrupt messages."""
 import re
 from streams import Event
 from tool import Refused

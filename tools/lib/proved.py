@@ -1,6 +1,6 @@
 """The proved program behind pipes, as a device of a descriptor that is asked one control transfer after the other."""
 import subprocess
-from tool import PROGRAM, Refused
+from tool import Refused, program
 
 
 class Proved:
@@ -8,9 +8,9 @@ class Proved:
 
     def __init__(self, descriptor):
         try:
-            self.run = subprocess.Popen([PROGRAM, "run"], stdin=subprocess.PIPE, stdout=subprocess.PIPE, text=True, encoding="ascii")
+            self.run = subprocess.Popen([program(), "run"], stdin=subprocess.PIPE, stdout=subprocess.PIPE, text=True, encoding="ascii")
         except OSError as why:
-            raise Refused(f"the program {PROGRAM} can't be run ({why.strerror})")
+            raise Refused(f"the program {program()} can't be run ({why.strerror})")
         lines = [f"d {descriptor[at:at + 48].hex()}\n" for at in range(0, len(descriptor), 48)]
         first = self.say("".join(lines) + "g\n")
         self.refusal = None if first.startswith("ready") else first

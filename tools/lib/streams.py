@@ -1,7 +1,7 @@
 """Streams judged at both ends, from what went over the bus.
 
-`Streams` is told when a stream begins and ends, and is fed the events of one microframe (of one frame of the bus at full speed) after the other.
-At the end it has what is wrong, as differences, and a row of numbers for each stream.
+`Streams` is told when a stream begins and ends, and is fed the events of one microframe (of one frame of the bus at full speed) after the
+other. At the end it has what is wrong, as differences, and a row of numbers for each stream.
 
     streams = Streams(blocks)                       # the blocks of the descriptor, as descriptor.cut gives them
     streams.begin(1, 1, 48000)                      # interface, setting, rate (None where it isn't known)
@@ -9,21 +9,23 @@ At the end it has what is wrong, as differences, and a row of numbers for each s
     streams.finish()
     streams.differences, streams.runs               # Differences; a Run each, with row()
 
-Of the host: the sum of its packets' frames is that of the value in force (the nominal one before the first report), a remainder carried, within a
-frame. Packets that it had handed in before a report came are allowed for: by `after`, the number of reports that it had heard when it handed a
-packet in, or else by the least number of packets with which its sums agree.
+Of the host: the sum of its packets' frames is that of the value in force (the nominal one before the first report), a remainder carried,
+within a frame. Packets that it had handed in before a report came are allowed for: by `after`, the number of reports that it had heard when
+it handed a packet in, or else by the least number of packets with which its sums agree.
 Of the device: the bytes of its reports, and the frames of its packets."""
 import bisect
 from controls import room_of, service_of, terminal_of
 from descriptor import little, settings_of
-from differences import STANDARD, WARNING, Difference, Differences
+from differences import STANDARD, WARNING, Difference, Differences, counted
 
 FRAME = 65536
 # Frames of the bus in a second, and the bytes of a report.
 PER_SECOND = {"high": 8000, "full": 1000}
 REPORT_BYTES = {"high": 4, "full": 3}
-# The most packets that a host is taken to have handed in beforehand, where nothing tells.
-MOST_BEFOREHAND = 512
+# A host may have handed in fewer packets than this before a report came, where nothing tells; and where the number is known, a report may
+# show in fewer than this after.
+BEFOREHAND = 512
+LATE = 64
 FEEDBACK = "USB 2.0, 5.12.4.2"
 PACKETS = "Audio Data Formats 2.0, 2.3.1"
 SIZES = "USB 2.0, 9.6.6"
@@ -35,7 +37,8 @@ class Event:
     handed the packet in (None where that isn't known), and the line of the script."""
 
     def __init__(self, letter, interface, state, size=None, data=None, after=None, line=0):
-        self.letter, self.interface, self.state, self.size, self.data, self.after, self.line = letter, interface, state, size, data, after, line
+        self.letter, self.interface, self.state, self.line = letter, interface, state, line
+        self.size, self.data, self.after = size, data, after
 
 
 class Shape:
@@ -62,7 +65,8 @@ class Run:
     """A stream from the setting that begins it to the next."""
 
     def __init__(self, interface, setting, rate, shape, speed, differences):
-        self.interface, self.setting, self.rate, self.shape, self.speed, self.differences = interface, setting, rate, shape, speed, differences
+        self.interface, self.setting, self.rate = interface, setting, rate
+        self.shape, self.speed, self.differences = shape, speed, differences
         self.packets, self.reports, self.lost, self.lost_reports, self.untold = [], [], 0, 0, 0
         self.beforehand = None
 
@@ -159,7 +163,7 @@ class Run:
         return sum(near), len(near)
 
     def judge_packets_in(self):
-        """Each packet has the whole number of frames below or above the mean; a mean within one frame of all is taken for a whole number."""
+        """Each packet has the whole number of frames below or above the mean, which is known within one frame of all."""
         known = self.from_first()
         if not known:
             return
@@ -167,25 +171,55 @@ class Run:
         least, most = (total - 1) // count, (total + 1) // count + 1
         for number, frames, event in known:
             if not least <= frames <= most:
-                self.add(STANDARD, "packet-off-the-mean", event, number, f"a packet of {frames} frames", f"{least} to {most} frames", f"A packet holds the whole number of frames below or above the mean, here {total / count:.4f}", PACKETS)
+                self.add(STANDARD, "packet-off-the-mean", event, number, f"a packet of {frames} frames", f"{least} to {most} frames",
+                         f"A packet holds the whole number of frames below or above the mean, here {total / count:.4f}", PACKETS)
 
     # ---- the host's packets against the value in force
 
     def judge_host(self):
+        """Whether the host's sums agree with the values in force, for some number of packets in which a report doesn't show yet."""
         if not self.packets:
             return
-        if all(event.after is not None for _, _, event in self.packets):
-            heard = [event.after for _, _, event in self.packets]
+        heard = self.heard()
+        if heard is not None:
             self.beforehand = self.count_beforehand(heard)
-            parted = self.parted_at(heard)
+            (at, amount), _ = self.parted_last(heard, LATE, False)
+            allowed = f"; {counted(self.beforehand, 'packet')} handed in before a report came are allowed for"
         else:
-            parted = self.parted_at_best()
-        at, amount = parted
+            (at, amount), before = self.parted_last(self.come(), BEFOREHAND, True)
+            self.beforehand = before if at == len(self.packets) else None
+            allowed = f", whatever number of packets up to {BEFOREHAND - 1} it had handed in before a report came"
         if at < len(self.packets):
             number, _, event = self.packets[at]
-            allowed = "" if self.beforehand is None else f"; the {self.beforehand} packets that it had handed in before are allowed for"
-            self.add(STANDARD, "host-parts", event, number, f"{in_frames(abs(amount))} frames too {'many' if amount > 0 else 'few'} so far",
-                     "at most 1 frame off", f"From here on the host's frames part from the sum of the value in force{allowed}", FEEDBACK, "host")
+            self.add(STANDARD, "host-parts", event, number, f"{counted(abs(amount), 'frame')} too {'many' if amount > 0 else 'few'} so far",
+                     "at most 1 frame off", f"From here on the host's frames part from the sum of the value in force{allowed}", FEEDBACK,
+                     "host")
+
+    def heard(self):
+        """How many reports the host had heard when it handed in each packet, None where nothing tells."""
+        if all(event.after is None for _, _, event in self.packets):
+            return None
+        heard = []
+        for _, _, event in self.packets:
+            heard.append(event.after if event.after is not None else heard[-1] if heard else 0)
+        return heard
+
+    def come(self):
+        """How many reports had come before each packet."""
+        times = [number for number, _ in self.reports]
+        return [bisect.bisect_left(times, number) for number, _, _ in self.packets]
+
+    def parted_last(self, heard, count, is_free):
+        """Where the sums part, and for how many packets in which a report doesn't show yet: the least such number with which they never do;
+        else none, or the number with which they part last, where it is free."""
+        best, least = None, 0
+        for late in range(count if self.reports else 1):
+            parted = self.parted_at([0] * late + heard[:max(len(heard) - late, 0)])
+            if best is None or parted[0] == len(self.packets) or is_free and parted[0] > best[0]:
+                best, least = parted, late
+            if best[0] == len(self.packets):
+                break
+        return best, least
 
     def count_beforehand(self, heard):
         """The most packets that came after a report, and were handed in before it."""
@@ -195,18 +229,6 @@ class Run:
             if end < len(heard):
                 most = max(most, end - begin)
         return most
-
-    def parted_at_best(self):
-        """Where the sums part for that number of packets handed in beforehand with which they part last; the least such number."""
-        times, best = [number for number, _ in self.reports], None
-        come = [bisect.bisect_left(times, number) for number, _, _ in self.packets]
-        for before in range(MOST_BEFOREHAND if self.reports else 1):
-            parted = self.parted_at([0] * before + come[:max(len(come) - before, 0)])
-            if best is None or parted[0] > best[0]:
-                best, self.beforehand = parted, before
-            if best[0] == len(self.packets):
-                break
-        return best
 
     def parted_at(self, heard):
         """Where the sums part, of a host that follows every report, or that leaves those out of the band, whichever is later."""
@@ -224,20 +246,20 @@ class Run:
         return values
 
     def parted(self, heard, ignores):
-        """The first packet at which the host's sum parts from the value's by more than a frame, and by how much; the number of packets where
-        it never does. Where a packet or value isn't known the sums begin anew, and a remainder of up to a frame is unknown then."""
-        values, total, low, high, slack, before = self.values_heard(ignores), 0, 0, 0, FRAME, None
+        """The first packet at which the host's sum parts by more than a frame from the whole frames of the value's sum, and by how many; the
+        number of packets where it never does. Where a packet or value isn't known the sums begin anew, with a remainder that isn't known."""
+        values, total, low, high, slack, before = self.values_heard(ignores), 0, 0, 0, 1, None
         for at, (number, frames, _) in enumerate(self.packets):
             value = values[min(heard[at], len(values) - 1)]
             is_gap = before is not None and number > before + self.shape.width
             before = number
             if frames is None or value is None or is_gap:
-                total, low, high, slack = 0, 0, 0, 2 * FRAME
+                total, low, high, slack = 0, 0, 0, 2
             if frames is None or value is None:
                 continue
-            total, low, high = total + frames * FRAME, low + value[0] * self.shape.width, high + value[1] * self.shape.width
-            if not low - slack <= total <= high + slack:
-                return at, total - (low if total < low else high)
+            total, low, high = total + frames, low + value[0] * self.shape.width, high + value[1] * self.shape.width
+            if not low // FRAME - slack <= total <= high // FRAME + slack:
+                return at, total - (low if total < low // FRAME else high) // FRAME
         return len(self.packets), 0
 
     # ---- the numbers

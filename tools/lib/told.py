@@ -22,8 +22,8 @@ def is_in(value, ranges):
 
 class Told:
     """The values that hold by key, None where nothing is known; what was told first; ranges as far as they were told; and settings.
-    After a difference the device's answer is taken for what holds, and what should have held is kept as doubted: an answer that goes back to
-    it is no further difference."""
+    After a difference the device's answer is taken for what holds, and what should have held is kept as doubted: an answer that goes back
+    to it is no further difference."""
 
     def __init__(self):
         self.values, self.starts, self.ranges, self.settings, self.requests = {}, {}, {}, {}, {}

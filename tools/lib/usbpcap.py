@@ -1,7 +1,7 @@
 """Records of USBPcap under Windows (link type 249), by its published header; no capture of a real one was at hand.
 
-Each begins with a head of at least 27 bytes: its length, the request's name, a status, a function, whether it goes up, bus, device, endpoint,
-the kind of transfer, and the number of data bytes. A control transfer adds its stage, an isochronous one its packets."""
+Each begins with a head of at least 27 bytes: its length, the request's name, a status, a function, whether it goes up, bus, device,
+endpoint, the kind of transfer, and the number of data bytes. A control transfer adds its stage, an isochronous one its packets."""
 import struct
 from capture import MOST_PACKETS, OVERFLOWED, STALLED, Burst, Message, Transfer
 

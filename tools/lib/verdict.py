@@ -4,17 +4,19 @@ Whether a transfer is to be answered or stalled, and with which bytes, the prove
 what the device told. What it can't hold is judged here alone, and noted. After a difference the device's answer is taken for what holds."""
 from controls import access_of, is_programmable
 from descriptor import cut, entities_of, little, settings_of
-from differences import CONTRADICTS, LIMIT, PROFILE, STANDARD, WARNING, Difference
+from differences import CONTRADICTS, LIMIT, PROFILE, STANDARD, WARNING, Difference, counted
 from request import Request
 from standard import bits_of, moves_by_itself, standard_name
 from told import CLOCKS, SILENCE, Told, is_in, subranges
 
-REQUESTS, LAYOUTS, VOLUMES, SELECTORS = "Audio Class 2.0, 5.2", "Audio Class 2.0, 5.2.2", "Audio Class 2.0, 5.2.5.7.2", "Audio Class 2.0, A.17"
+REQUESTS, LAYOUTS, SELECTORS = "Audio Class 2.0, 5.2", "Audio Class 2.0, 5.2.2", "Audio Class 2.0, A.17"
+VOLUMES = "Audio Class 2.0, 5.2.5.7.2"
 STANDARD_REQUESTS, DESCRIPTORS, SETTINGS = "USB 2.0, 9.4", "USB 2.0, 9.4.3", "USB 2.0, 9.4.10"
 # Why a stall is wanted, by the program's rule.
 ABSENT = {"Q2": "The configuration has no interface {interface}", "Q3": "No entity has the id {entity}",
           "Q4": "The standard gives it no control {selector}", "Q5": "The descriptor declares the control absent: its two bits are 00",
-          "Q6": "The entity has no channel {channel}", "Q7": "The control can only be read", "Q11": "Interface {interface} has no setting {setting}"}
+          "Q6": "The entity has no channel {channel}", "Q7": "The control can only be read",
+          "Q11": "Interface {interface} has no setting {setting}"}
 # Controls whose bytes the profile chose where the standard is not taken for it: their first width is theirs.
 OWN_WIDTH = ("connector", "selector", "numerator", "denominator")
 # What the profile gives ranges, and the standard needn't.
@@ -37,7 +39,8 @@ class Verdict:
     # ---- what is told
 
     def add(self, kind, rule, kept, request, value, wanted, text, said=""):
-        self.differences.add(Difference(kind, rule, kept.line, request.in_words(), value, wanted, text, said, key=(request.name, request.target)))
+        key = request.name, request.target
+        self.differences.add(Difference(kind, rule, kept.line, request.in_words(), value, wanted, text, said, key=key))
 
     def wrong(self, rule, kept, request, wanted, text, said=REQUESTS, kind=STANDARD):
         self.add(kind, rule, kept, request, self.spell(kept.said, request), wanted, text, said)
@@ -174,16 +177,24 @@ class Verdict:
             and request.entity["attributes"] & 3 != 1
         return is_external or moves_by_itself(request.entity.kind, request.selector)
 
+    def is_too_long(self, kept, request):
+        """Whether an answer is longer than was asked for, which is told."""
+        is_one = kept.said.kind == "overflow" or len(kept.said.data) > request.length
+        if is_one:
+            self.wrong("longer-than-asked", kept, request, f"at most {counted(request.length, 'byte')}",
+                       "An answer is no longer than wLength", STANDARD_REQUESTS)
+        return is_one
+
     def has_length(self, kept, request):
         """Whether an answer is no longer than was asked for, and as long as the control."""
         said, width = kept.said, None if request.control is None or request.control.name in OWN_WIDTH else request.control.width
-        if said.kind == "overflow" or len(said.data) > request.length:
-            self.wrong("longer-than-asked", kept, request, f"at most {request.length} bytes", "An answer is no longer than wLength", STANDARD_REQUESTS)
+        if self.is_too_long(kept, request):
             return False
         if request.of_interface == "active_setting":
             width = 1
         if width is not None and said.is_whole and len(said.data) != min(width, request.length):
-            self.wrong("other-length", kept, request, f"{min(width, request.length)} bytes", "The control's value has another length", LAYOUTS)
+            self.wrong("other-length", kept, request, counted(min(width, request.length), "byte"), "The control's value has another length",
+                       LAYOUTS)
             return False
         return True
 
@@ -232,10 +243,9 @@ class Verdict:
             self.told.ranges[key] = said.data
 
     def has_whole_ranges(self, kept, request):
-        """Whether an answer is no longer than was asked for, as long as its number of subranges says, and each has MIN no greater than MAX."""
+        """Whether an answer is no longer than was asked for, as long as its number of subranges says, and no MIN is above its MAX."""
         said, control = kept.said, request.control
-        if said.kind == "overflow" or len(said.data) > request.length:
-            self.wrong("longer-than-asked", kept, request, f"at most {request.length} bytes", "An answer is no longer than wLength", STANDARD_REQUESTS)
+        if self.is_too_long(kept, request):
             return False
         if control is None or not said.is_whole:
             return True
@@ -243,8 +253,9 @@ class Verdict:
         if len(said.data) != min(whole, request.length) or request.length >= 2 > len(said.data):
             is_own = control.name in OWN_WIDTH
             if not is_own:
-                self.wrong("other-length", kept, request, f"{min(max(whole, 2), request.length)} bytes",
-                           f"{little(said.data[:2])} subranges, each of three numbers of {control.width} bytes, have another length", LAYOUTS)
+                ranges = f"{counted(little(said.data[:2]), 'subrange')} of three numbers of {counted(control.width, 'byte')}"
+                self.wrong("other-length", kept, request, counted(min(max(whole, 2), request.length), "byte"),
+                           f"The answer hasn't the length of {ranges}", LAYOUTS)
             return is_own
         wrong = [(least, most) for least, most, _ in subranges(said.data, control) or [] if least > most]
         if wrong:
@@ -324,15 +335,16 @@ class Verdict:
         wanted = self.descriptor[at:][:request.length]
         if said.kind == "stall":
             self.wrong("stall", kept, request, "the configuration's bytes", "The configuration descriptor can be read", DESCRIPTORS)
-        elif said.kind == "overflow" or len(said.data) > request.length:
-            self.wrong("longer-than-asked", kept, request, f"at most {request.length} bytes", "An answer is no longer than wLength", DESCRIPTORS)
+        elif self.is_too_long(kept, request):
+            return
         elif said.is_whole and len(said.data) != len(wanted):
-            self.wrong("other-length", kept, request, f"{len(wanted)} bytes", "The answer has the lesser of wLength and the configuration's total",
-                       DESCRIPTORS)
+            self.wrong("other-length", kept, request, counted(len(wanted), "byte"),
+                       "The answer has the lesser of wLength and the configuration's total", DESCRIPTORS)
         elif said.data != wanted[:len(said.data)]:
             at = next(at for at, (one, other) in enumerate(zip(said.data, wanted)) if one != other)
             self.contradicts("other-descriptor", kept, request, f"bytes {wanted.hex()}",
-                             f"Byte {at} of the configuration is {said.data[at]:02x} here and {wanted[at]:02x} in the descriptor", DESCRIPTORS)
+                             f"Byte {at} of the configuration is {said.data[at]:02x} here and {wanted[at]:02x} in the descriptor",
+                             DESCRIPTORS)
 
     def get_interface(self, kept, request):
         known = self.told.settings.get(request.index)
