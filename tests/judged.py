@@ -343,6 +343,16 @@ def test_planted_in_a_capture(_):
 # ---- what is printed
 
 
+def test_docs_have_the_rules_of_judge(_):
+    """Each rule that is told stands in the table of docs/TOOLS.md."""
+    page = example("docs/TOOLS.md").decode().partition("## tools/judge")[2].partition("### `--json` of judge")[0]
+    told = {name for row in page.split("\n") if row.startswith("| `") for name in re.findall("`([a-zA-Z0-9-]+)`", row.split("|")[1])}
+    pattern = r'(?:wrong|contradicts|own|alone|add|is_own else self\.wrong\))\((?:[A-Z]+, )?"([a-zA-Z0-9-]+)"'
+    answers, streams = (set(re.findall(pattern, example(f"tools/lib/{name}.py").decode())) for name in ("verdict", "streams"))
+    wanted = answers | {f"stream-{name}" for name in streams} | {"Q2", "Q3", "Q4", "Q5", "Q6", "Q7", "Q11"}
+    same({name for name in told if not name.startswith("-")}, wanted | {"stall"}, "docs/TOOLS.md")
+
+
 def test_judge_as_text(_):
     need("streams")
     done = tool("judge", "-", data=script_of(HEADSET + ".pcap").encode())

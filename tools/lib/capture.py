@@ -71,6 +71,8 @@ class Assembly:
 
     def __init__(self):
         self.events, self.notes, self.waiting, self.handed, self.missing, self.names = [], [], {}, {}, {}, set()
+        # Whether places of bursts count frames of a millisecond, whatever the device's speed is.
+        self.counts_frames = False
 
     def ask(self, name, transfer):
         self.waiting[name] = transfer

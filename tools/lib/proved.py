@@ -38,6 +38,11 @@ class Proved:
             raise Refused(f"the program answered '{answer}'")
         return answer[2:]
 
+    def has(self, request, data):
+        """Whether a control has this value."""
+        answer = self.ask(bytes([0xA1, 1]) + request.setup[2:6] + len(data).to_bytes(2, "little"))
+        return answer == f"bytes {data.hex()}"
+
     def hold(self, request, data):
         """Sets a control to this value; whether it is held."""
         return self.ask(bytes([0x21, 1]) + request.setup[2:6] + len(data).to_bytes(2, "little"), data) == "done"

@@ -27,7 +27,7 @@ class Told:
 
     def __init__(self):
         self.values, self.starts, self.ranges, self.settings, self.requests = {}, {}, {}, {}, {}
-        self.doubted = {}
+        self.doubted, self.is_configured = {}, False
 
     def note(self, request):
         """The key of a request's control, which is remembered in its order."""
@@ -63,6 +63,10 @@ class Told:
     def is_running(self):
         return any(setting != 0 for setting in self.settings.values())
 
+    def may_run(self, interfaces):
+        """Whether one of these interfaces is in another setting than 0, as far as one knows."""
+        return any(self.settings.get(interface, 0 if self.is_configured else None) != 0 for interface in interfaces)
+
     def forget(self, is_meant):
         """Values, and ranges, of these keys may be others now."""
         for key in [key for key in self.values if is_meant(self.requests.get(key))]:
@@ -85,6 +89,7 @@ class Told:
         if len(data) != 6 or data[0] & 1:
             self.forget(lambda one: True)
             self.settings.clear()
+            self.is_configured = False
             return
         key = little(data[4:6]), little(data[2:4])
         self.forget(lambda one: one is None or (one.index, one.value) == key)
@@ -92,7 +97,7 @@ class Told:
     def configured(self):
         """The host chose a configuration: every control may be at its start, and every interface is in setting 0."""
         self.forget(lambda one: True)
-        self.settings = dict.fromkeys(self.settings, 0)
+        self.settings, self.is_configured = dict.fromkeys(self.settings, 0), True
 
     def rate_of(self, clock, by_id, depth=0):
         """The rate of a clock entity by what was told; None where it isn't known."""

@@ -12,7 +12,6 @@ SETUP, DATA, STATUS, COMPLETE = 0, 1, 2, 3
 STATUSES = {0: 0, 0xC0000004: STALLED, 0xC0000030: STALLED, 0xC0010000: -2, 0xC0000008: OVERFLOWED, 0xC000000C: OVERFLOWED}
 # Another failure, as Linux would say a protocol error.
 FAILED = -71
-MICROFRAMES = 8
 
 
 class Record:
@@ -63,13 +62,15 @@ def take_burst(assembly, record):
         sizes = assembly.handed[name][0]
     packets = [(STATUSES.get(status, FAILED), size) for (_, _, status), size in zip(told, sizes)]
     packets += [(None, None)] * (min(count, MOST_PACKETS) - len(packets))
-    burst = Burst(record.device, record.endpoint, record.status, record.time, start * MICROFRAMES, packets, failed)
+    burst = Burst(record.device, record.endpoint, record.status, record.time, start, packets, failed)
     if record.endpoint & 0x80:
         burst.keep_data(record.data, places)
     assembly.take(name, burst)
 
 
 def of_usbpcap(records, assembly):
+    """Takes the records of a capture in turn."""
+    assembly.counts_frames = True
     for time, data in records:
         if len(data) < HEAD.size:
             continue

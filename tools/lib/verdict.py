@@ -324,7 +324,7 @@ class Verdict:
             return number in (0, 1)
         if request.entity.kind in CLOCKS:
             is_plain = request.control.name == "frequency" and not any(one.kind == "clock_multiplier" for one in self.by_id.values())
-            return is_plain and not self.told.is_running() and bool(ranges) and is_in(number, ranges)
+            return is_plain and not self.told.may_run(self.counts) and bool(ranges) and is_in(number, ranges)
         return request.control.name == "volume" and bool(ranges) and is_in(number, ranges)
 
     # ---- descriptors and settings
@@ -364,15 +364,16 @@ class Verdict:
             self.told.settings[request.index] = data[0]
 
     def set_interface(self, kept, request):
-        if self.proved is not None:
-            self.hold_clocks()
+        shape = self.streams.shapes.get((request.index, request.value))
+        rate = None if shape is None else self.told.rate_of(shape.clock, self.by_id)
+        are_held = self.proved is not None and self.hold_clocks()
         answer = self.ask(request)
         if answer == "done" and request.value:
             self.proved.ask_setting(request.index, 0)
         if self.is_absent(kept, request, answer):
             return
-        is_beyond = request.value > 0 and (self.speed != "high" or answer == "stall Q12")
-        if is_beyond:
+        is_beyond = shape is not None and (self.speed != "high" or answer == "stall Q12" or not are_held or rate is None)
+        if is_beyond and answer is not None and rate is not None:
             self.alone("setting", kept, request, "the program can't run this setting at this rate")
         if kept.said.kind == "stall":
             if answer == "done" and not is_beyond and self.counts.get(request.index):
@@ -381,15 +382,16 @@ class Verdict:
         if answer == "stall Q12":
             self.own("Q12", kept, request, "stall", "In the profile a setting has to fit the rate")
         self.told.settings[request.index] = request.value
-        shape = self.streams.shapes.get((request.index, request.value))
-        self.streams.begin(request.index, request.value, None if shape is None else self.told.rate_of(shape.clock, self.by_id))
+        self.streams.begin(request.index, request.value, rate)
 
     def hold_clocks(self):
-        """Brings the program's clocks to what the device told of its own."""
+        """Brings the program's clocks to what the device told of its own; whether it holds all of that."""
+        are_held = True
         for key, request in self.told.requests.items():
             known = self.told.values.get(key)
-            if known and request.entity is not None and request.entity.kind in CLOCKS and is_settable(request):
-                self.proved.hold(request, known)
+            if known and request.control is not None and request.control.element is not None and request.entity.kind in CLOCKS:
+                are_held = (self.proved.has(request, known) or self.proved.hold(request, known)) and are_held
+        return are_held
 
 
 def is_settable(request):
