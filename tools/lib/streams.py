@@ -212,9 +212,9 @@ class Run:
     def parted_last(self, heard, count, is_free):
         """Where the sums part, and for how many packets in which a report doesn't show yet: the least such number with which they never do;
         else none, or the number with which they part last, where it is free."""
-        best, least = None, 0
+        best, least, ways = None, 0, self.ways_of_hosts()
         for late in range(count if self.reports else 1):
-            parted = self.parted_at([0] * late + heard[:max(len(heard) - late, 0)])
+            parted = max((self.parted(heard, late, values) for values in ways), key=lambda one: one[0])
             if best is None or parted[0] == len(self.packets) or is_free and parted[0] > best[0]:
                 best, least = parted, late
             if best[0] == len(self.packets):
@@ -230,12 +230,10 @@ class Run:
                 most = max(most, end - begin)
         return most
 
-    def parted_at(self, heard):
-        """Where the sums part, of a host that follows every report, or that leaves those out of the band, whichever is later."""
-        follows = self.parted(heard, False)
-        if follows[0] == len(self.packets) or all(value is None or self.is_in_band(value) for _, value in self.reports):
-            return follows
-        return max(follows, self.parted(heard, True), key=lambda one: one[0])
+    def ways_of_hosts(self):
+        """The values in force of a host that follows every report, and of one that leaves those out of the band, where that is another."""
+        is_plain = all(value is None or self.is_in_band(value) for _, value in self.reports)
+        return [self.values_heard(ignores) for ignores in ((False,) if is_plain else (False, True))]
 
     def values_heard(self, ignores):
         """The least and greatest value in force after each number of reports; None where it isn't known."""
@@ -245,19 +243,19 @@ class Run:
             values.append((None if value is None else (value, value)) if is_taken else values[-1])
         return values
 
-    def parted(self, heard, ignores):
+    def parted(self, heard, late, values):
         """The first packet at which the host's sum parts by more than a frame from the whole frames of the value's sum, and by how many; the
         number of packets where it never does. Where a packet or value isn't known the sums begin anew, with a remainder that isn't known."""
-        values, total, low, high, slack, before = self.values_heard(ignores), 0, 0, 0, 1, None
+        total, low, high, slack, before, width = 0, 0, 0, 1, None, self.shape.width
         for at, (number, frames, _) in enumerate(self.packets):
-            value = values[min(heard[at], len(values) - 1)]
-            is_gap = before is not None and number > before + self.shape.width
+            value = values[min(heard[at - late], len(values) - 1) if at >= late else 0]
+            is_gap = before is not None and number > before + width
             before = number
             if frames is None or value is None or is_gap:
                 total, low, high, slack = 0, 0, 0, 2
             if frames is None or value is None:
                 continue
-            total, low, high = total + frames, low + value[0] * self.shape.width, high + value[1] * self.shape.width
+            total, low, high = total + frames, low + value[0] * width, high + value[1] * width
             if not low // FRAME - slack <= total <= high // FRAME + slack:
                 return at, total - (low if total < low // FRAME else high) // FRAME
         return len(self.packets), 0
