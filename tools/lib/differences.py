@@ -1,12 +1,14 @@
 """What a tool found wrong in a script: each difference once, with its count, as text and as plain data for --json.
 
 A difference says in which line of the script it stands, what was asked, what was said and what was wanted, why, and by which document."""
+import re
 
 STANDARD, CONTRADICTS, PROFILE, LIMIT, WARNING = "standard", "contradicts itself", "profile", "limit", "warning"
 HEADINGS = {STANDARD: "Wrong by the standard", CONTRADICTS: "Contradicts itself", PROFILE: "Other than this project's profile",
             LIMIT: "Judged by this tool alone, since the program can't hold it", WARNING: "Warnings"}
-# The places that a text names; of more the number is told.
+# The places that a text names; of more the number is told. And the bytes that it shows.
 NAMED = 4
+MOST_BYTES = 24
 
 
 class Difference:
@@ -30,11 +32,16 @@ class Difference:
             yield f"line {self.places[0]}: {self.field}: {self.text}" + (f"; {count} times" if count > 1 else "")
             return
         yield f"line {self.places[0]}: {self.field}"
-        yield f"  the {self.party} {'sent' if self.rule.startswith('stream') else 'said'}: {self.value}"
-        yield f"  {'in the profile' if self.kind == PROFILE else 'wanted'}: {self.wanted}"
+        yield f"  the {self.party} {'sent' if self.rule.startswith('stream') else 'said'}: {shortened(self.value)}"
+        yield f"  {'in the profile' if self.kind == PROFILE else 'wanted'}: {shortened(self.wanted)}"
         yield f"  {self.text}{f' ({self.said})' if self.said else ''}."
         if count > 1:
             yield f"  {count} times: {lines_named(self.places)}."
+
+
+def shortened(text):
+    """A text without the most of long bytes."""
+    return re.sub(f"[0-9a-f]{{{2 * MOST_BYTES + 1},}}", lambda found: f"{found[0][:2 * MOST_BYTES]}..", text)
 
 
 def counted(count, what):

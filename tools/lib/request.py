@@ -82,5 +82,6 @@ class Request:
         if self.name == "GET RANGE" and len(data) >= 2 and len(data) == 2 + little(data[:2]) * size:
             values = [control.value_of(data[at:at + control.width]) for at in range(2, len(data), control.width)]
             parts = zip(values[::3], values[1::3], values[2::3])
-            return " (" + ", ".join(f"{least} to {most} by {step}" for least, most, step in parts) + ")"
+            told = (f"{least} to {most} by {step}" if least != most or step else str(least) for least, most, step in parts)
+            return f" ({', '.join(told)})"
         return ""

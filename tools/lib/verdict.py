@@ -308,15 +308,16 @@ class Verdict:
     def stalled(self, kept, request, key, rule):
         """A SET that was stalled: of a value in the device's own range that is wrong, of another its own choice."""
         if rule is None and self.is_own_value(request, key):
-            is_own = self.told.ranges_of(key) is not None
-            text = "A host may set the control to each value of its range"
+            is_own = request.control.name != "mute"
+            text = "A host may set the control to each value of its range" if is_own else "A host may set the control on and off"
             (self.contradicts if is_own else self.wrong)("stall", kept, request, "done", text, LAYOUTS)
             self.told.hold(key, None)
         elif rule is None and self.proved is not None:
             self.own("stall", kept, request, "done", "The profile has this value")
 
     def is_own_value(self, request, key):
-        """Whether the device must take a value: one of its own range, or on and off; a clock's while streams run it needn't."""
+        """Whether the device must take a value: one of its own range, one that it told, or on and off; a clock's while streams run it
+        needn't."""
         number, ranges = request.number(request.sent), self.told.ranges_of(key)
         if number is None or not is_settable(request):
             return False
@@ -325,7 +326,8 @@ class Verdict:
         if request.entity.kind in CLOCKS:
             is_plain = request.control.name == "frequency" and not any(one.kind == "clock_multiplier" for one in self.by_id.values())
             return is_plain and not self.told.may_run(self.counts) and bool(ranges) and is_in(number, ranges)
-        return request.control.name == "volume" and bool(ranges) and is_in(number, ranges)
+        is_known = request.sent in (self.told.values.get(key), self.told.starts.get(key))
+        return request.control.name == "volume" and (is_known or bool(ranges) and is_in(number, ranges))
 
     # ---- descriptors and settings
 
