@@ -1,7 +1,6 @@
 """Tests of tools/script_of, on captures that are made here and on the real ones; tests/tools runs them."""
-import gzip, os, struct, subprocess
-from making import burst, control, handed, head, headset_told, joined, pcap, records
-from needs import TOP
+import gzip, os, struct
+from making import burst, control, handed, head, headset_told, pcap
 from tooling import example, need, one_sentence, same, tool
 
 REAL = "tests/captures/linux-host-headset"
@@ -113,7 +112,7 @@ def test_packets_of_usbmon_text(_):
             b"ff01 5000 S Co:1:005:0 s 01 0b 0000 0001 0000 0\nff01 5100 C Co:1:005:0 0 0\n")
     done = tool("script_of", "-", "--descriptor", "examples/headset.bin", data=text)
     lines = [line for line in done.stdout.decode().partition("\ng\n")[2].split("\n") if not line.startswith("# bus")]
-    same(lines, [*START, "m 1", "m 1 o1", "m 6", "# 1 more packets were lost, and the capture doesn't keep which", *STOP, ""], "script_of")
+    same(lines, [*START, "m 1", "m 1 o1", "m 6", "# 1 more packet was lost, and the capture doesn't keep which", *STOP, ""], "script_of")
     assert "# bus 2: o 1 6 lost 36 after 0\n" in done.stdout.decode() and "# bus 8: o 1 - untold - after 0\n" in done.stdout.decode()
     note = "script_of: note: 3 packets are counted and not told: usbmon's text keeps five of each burst, its binary form (tcpdump) all\n"
     same(done.stderr.decode(), note, "script_of")
@@ -125,7 +124,7 @@ def test_what_a_capture_lacks(_):
     whole = pcap(headset_told() + control(3000, "a101000200010100", b"\x01"))
     for data, words in ((whole[:-5], "the capture ends within a record: its last 76 bytes are left out"),
                         (whole + b"\x01\x02", "the capture ends within a record: its last 2 bytes are left out"),
-                        (pcap(lost), "1 records of isochronous packets are missing"),
+                        (pcap(lost), "at least 1 record of isochronous packets is missing, since"),
                         (pcap(lost), "8 packets of endpoint 0x01 are left out"),
                         (gzip.compress(whole)[:-9], "the gzip file is cut")):
         done = tool("script_of", "-", "--descriptor", "examples/headset.bin", data=data)

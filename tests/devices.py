@@ -1,8 +1,8 @@
 """The program as a real device: what it answers to random transfers, and what went over its bus, as a script with a device's answers."""
-import random, subprocess, sys, os
+import os, random, subprocess, sys
 from needs import PROGRAM, TOP, as_lines
 sys.path.insert(0, os.path.join(TOP, "tools", "lib"))
-from descriptor import cut, entities_of, settings_of
+from descriptor import cut, entities_of
 from streams import shapes_of
 
 REQUESTS = [(0xA1, 1), (0xA1, 2), (0x21, 1), (0x80, 6), (0x81, 10), (0x01, 11)]

@@ -3,7 +3,7 @@ them."""
 import functools, json, re, struct
 from devices import answered_by_program, random_script
 from making import joined, records
-from needs import as_lines, why_missing
+from needs import as_lines
 from tooling import example, need, one_sentence, same, tool
 
 GADGET = "tests/captures/f_uac2-bint1-s24-48k"
@@ -203,16 +203,14 @@ def test_controls_that_the_program_does_not_play(_):
 
 
 def test_a_descriptor_that_the_program_refuses(_):
-    """A second function: what the device contradicts itself in is told all the same."""
+    """Which control is there isn't judged then; what the device contradicts itself in is told all the same."""
     need("transfers")
-    data = example("examples/headset.bin").replace(bytes.fromhex("0d2403"), bytes.fromhex("0d2403"))
-    data = data[:60] + bytes([data[60]]) + data[61:]
-    broken = bytearray(data)
-    broken[83] = 2
-    lines = ["c 2101010200030200 00ff", "# said done", "c a101010200030200", "# said bytes 00fe"]
-    done = tool("judge", "-", data=as_lines(bytes(broken)) + b"g\n" + "\n".join(lines).encode())
+    data = bytearray(example("examples/headset.bin"))
+    data[83] = 2
+    lines = ["c 2101010200030200 00ff", "# said done", "c a101010200030200", "# said bytes 00fe", "c a101030200030200", "# said bytes 0000"]
+    done = tool("judge", "-", data=as_lines(bytes(data)) + b"g\n" + "\n".join(lines).encode())
     assert b"note: the program doesn't take this descriptor (descriptor G4 at 78; tools/explain says why)" in done.stdout, done.stdout
-    assert b"2 transfers: 1 wrong" in done.stdout and done.returncode == 1, done.stdout
+    assert b"3 transfers: 1 wrong" in done.stdout and done.returncode == 1, done.stdout
 
 
 # ---- streams
@@ -354,12 +352,27 @@ def test_docs_have_the_rules_of_judge(_):
 
 
 def test_judge_as_text(_):
+    """What docs/TOOLS.md shows is what is printed."""
     need("streams")
     done = tool("judge", "-", data=script_of(HEADSET + ".pcap").encode())
+    shown = example("docs/TOOLS.md").decode().partition(f"$ tools/script_of {HEADSET}.pcap | tools/judge -\n")[2].partition("```")[0]
+    same((done.stdout.decode(), done.returncode, done.stderr), (shown, 0, b""), "judge")
+
+
+def test_differences_as_text(_):
+    """One of each party; the same several times is told once, with the lines."""
+    need("streams")
+    script = answered(script_of(HEADSET + ".pcap"), "a101000200010100", "bytes 0101", 3, 2)
+    done = tool("judge", "-", data=script.replace(": o 1 6 ok 36 after 30", ": o 1 8 ok 48 after 30", 1).encode())
     lines = done.stdout.decode().split("\n")
-    for line in ("This device's own", "  rate.1.0      the twelve rates  48000", "  volume.3.1    -96 to 0 dB by 1  0 dB", "Streams",
-                 "56 transfers, 938 packets, 118 reports: nothing wrong"):
-        assert line in lines, f"{line!r} isn't in {done.stdout.decode()}"
+    at = lines.index("Wrong by the standard")
+    first = next(number for number, line in enumerate(script.split("\n"), 1) if line == "# said bytes 0101")
+    wanted = [f"line {first - 1}: GET CUR validity.1.0", "  the device said: bytes 0101", "  wanted: at most 1 byte",
+              "  An answer is no longer than wLength (USB 2.0, 9.4).", f"  2 times: lines {first - 1} and "]
+    for line, front in zip(lines[at + 1:], wanted):
+        assert line.startswith(front), f"{line!r}, wanted {front!r}"
+    host = next(at for at, line in enumerate(lines) if line.startswith("line ") and "stream" in line)
+    same(lines[host + 1:host + 3], ["  the host sent: 2 frames too many so far", "  wanted: at most 1 frame off"], "judge")
 
 
 def test_judge_of_what_is_none(_):

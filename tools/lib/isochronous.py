@@ -12,6 +12,7 @@ import bisect
 from capture import TAKEN_BACK
 from controls import service_of
 from descriptor import cut, little, settings_of
+from differences import counted
 
 # The length of a frame of the bus in microseconds.
 LENGTHS = {"high": 125, "full": 1000}
@@ -191,5 +192,6 @@ class Microframes:
                 yield " ".join([f"m {count}"] + sorted(marks, key=lambda mark: ("oif".index(mark[0]), int(mark[1:]))))
             self.told += count
         if self.unplaced:
-            yield f"# {self.unplaced} more packets were lost, and the capture doesn't keep which"
+            were = "was" if self.unplaced == 1 else "were"
+            yield f"# {counted(self.unplaced, 'more packet')} {were} lost, and the capture doesn't keep which"
         self.pause = self.unplaced = 0

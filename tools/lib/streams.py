@@ -244,8 +244,8 @@ class Run:
         return values
 
     def parted(self, heard, late, values):
-        """The first packet at which the host's sum parts by more than a frame from the whole frames of the value's sum, and by how many; the
-        number of packets where it never does. Where a packet or value isn't known the sums begin anew, with a remainder that isn't known."""
+        """The first packet at which the host's sum parts by more than a frame from the whole frames of the value's sum, and by how many;
+        the number of packets where it never does. Where a packet or value isn't known the sums begin anew, with an unknown remainder."""
         total, low, high, slack, before, width = 0, 0, 0, 1, None, self.shape.width
         for at, (number, frames, _) in enumerate(self.packets):
             value = values[min(heard[at - late], len(values) - 1) if at >= late else 0]
