@@ -299,6 +299,29 @@ def test_hosts(_):
     same(told["findings"][0]["field"], "interface 1's stream to the device, microframe 140", "judge")
 
 
+def test_streams_without_reports(_):
+    """A host before an adaptive endpoint keeps the nominal pace, a remainder carried; before an asynchronous one without a feedback endpoint
+    it may follow a stream of the device, so its pace isn't judged."""
+    need("streams")
+    data = bytearray(example("examples/headset.bin"))
+    at, feedback = data.index(bytes.fromhex("07050105960001")), data.index(bytes.fromhex("07058111040004"))
+    data[data.index(bytes.fromhex("090401010201022000")) + 4] = 1
+    del data[feedback:feedback + 7]
+    data[20:22] = struct.pack("<H", len(data) - 18)
+    for attributes, off, wanted in ((0x09, 0, []), (0x0D, 0, []), (0x09, 30, [stream_wrong("host-parts", "host")]), (0x05, 30, [])):
+        data[at + 3] = attributes
+        lines = ["c a101000100010400", "# said bytes 44ac0000", "c 010b010001000000", "# said done"]
+        total, made = 0, 0
+        for number in range(1, 2001):
+            total += 361267 + off * 16
+            frames, made = (total >> 16) - made, total >> 16
+            lines.append(f"# bus {number}: o 1 {frames} ok {6 * frames}")
+        script = as_lines(bytes(data)).decode() + "g\n" + "".join(line + "\n" for line in lines)
+        streams_are(script, *wanted)
+        limits = {one["rule"] for one in judged(script)[1]["findings"] if one["kind"] == "limit"}
+        same("stream-implicit" in limits, attributes == 0x05, "judge")
+
+
 def test_streams_from_the_device(_):
     need("streams")
     plain = microframes(40, "i 2 - ok 0", None)[:3] + microframes(400, "i 2 6 ok 12", None)[3:]

@@ -5,7 +5,7 @@ import re
 
 STANDARD, CONTRADICTS, PROFILE, LIMIT, WARNING = "standard", "contradicts itself", "profile", "limit", "warning"
 HEADINGS = {STANDARD: "Wrong by the standard", CONTRADICTS: "Contradicts itself", PROFILE: "Other than this project's profile",
-            LIMIT: "Judged by this tool alone, since the program can't hold it", WARNING: "Warnings"}
+            LIMIT: "What the program can't hold: judged by this tool alone", WARNING: "Warnings"}
 # The places that a text names; of more the number is told. And the bytes that it shows.
 NAMED = 4
 MOST_BYTES = 24

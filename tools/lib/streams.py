@@ -16,7 +16,7 @@ Of the device: the bytes of its reports, and the frames of its packets."""
 import bisect
 from controls import room_of, service_of, terminal_of
 from descriptor import little, settings_of
-from differences import STANDARD, WARNING, Difference, Differences, counted
+from differences import LIMIT, STANDARD, WARNING, Difference, Differences, counted
 
 FRAME = 65536
 # Frames of the bus in a second, and the bytes of a report.
@@ -52,8 +52,9 @@ class Shape:
         self.width = service_of(ends[0]) if ends else 1
         self.room = room_of(ends[0]) if ends else None
         self.frame = general["channels"] * form["subslot"] if form is not None and general is not None else None
-        self.is_asynchronous = bool(ends) and ends[0]["attributes"] >> 2 & 3 == 1
         self.has_reports = len(ends) > 1
+        # Whether the host's pace is known: by reports, or because the device follows the bus or the host.
+        self.has_pace = self.has_reports or bool(ends) and ends[0]["attributes"] >> 2 & 3 in (2, 3)
 
 
 def shapes_of(blocks):
@@ -82,7 +83,7 @@ class Run:
         whole, rest = divmod(self.rate * FRAME, PER_SECOND[self.speed])
         return whole, whole + bool(rest)
 
-    def add(self, kind, rule, event, number, value, wanted, why, document, party="device", what=None):
+    def add(self, kind, rule, event, number, value, wanted, why, document="", party="device", what=None):
         unit = "microframe" if self.speed == "high" else "frame of the bus"
         field = f"{what or self.name}, {unit} {number}"
         self.differences.add(Difference(kind, f"stream-{rule}", event.line, field, value, wanted, why, document, party, 1, self.interface))
@@ -179,6 +180,10 @@ class Run:
     def judge_host(self):
         """Whether the host's sums agree with the values in force, for some number of packets in which a report doesn't show yet."""
         if not self.packets:
+            return
+        if not self.shape.has_pace:
+            self.add(LIMIT, "implicit", self.packets[0][2], self.packets[0][0], "packets", "",
+                     "its pace isn't judged: it has no feedback endpoint, and a host may take its pace from a stream of the device")
             return
         heard = self.heard()
         if heard is not None:
