@@ -1,0 +1,3 @@
+pub mod BandsLemmas
+pub mod ReportsLemmas
+mod Worked
