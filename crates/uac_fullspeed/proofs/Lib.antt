@@ -1,3 +1,4 @@
 pub mod BandsLemmas
+pub mod FsPrintingLemmas
 pub mod ReportsLemmas
 mod Worked

@@ -1,8 +1,12 @@
-//! One mono stream on a full-speed bus: its rates, reports of three bytes, and the bands in which its ring stays.
+//! One mono stream on a full-speed bus: its rates, reports of three bytes, a bench under a script, and the bands in which its ring stays.
 #![tactic(auto)]
 
+/// Why a line of a bench isn't done.
+mod fault;
 /// Laws, each the contract of a function that does nothing.
 pub mod laws;
+/// The lines of a bench.
+mod printing;
 /// The ten rates and their nominal values.
 mod rates;
 /// Reports and their bytes.
@@ -10,6 +14,7 @@ mod reports;
 /// What follows from a sampling rate.
 mod values;
 
+pub use fault::BenchFault;
 pub use rates::{FS_RATES, fs_nominal};
 pub use reports::{fs_report, read_report, write_report};
 pub use values::FsNominal;
