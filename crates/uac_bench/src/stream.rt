@@ -1,5 +1,5 @@
 // The stream of a bench.
-ghost use Rattle.std.specs.Prelude.{◌≡◌, ◌≤◌, ◌+◌, nat_le, List, ℤ, IfOk};
+ghost use Rattle.std.specs.Prelude.{◌≡◌, ◌≤◌, ◌+◌, nat_le, List, ℤ, IfOk, IfSome};
 ghost use Rattle.uac_ring.specs.Rings.{ring_frames};
 ghost use Rattle.uac_bench.specs.BenchStreams.{StreamWorld, after_packet, after_priming, after_tick, arrival_of, level_of, one_missed};
 ghost use Rattle.uac_bench.specs.BenchStreams.{played_in, stream_start, with_zeros};
@@ -25,11 +25,15 @@ pub struct BenchStream {
 }
 
 impl Model for BenchStream {
+    ghost use Rattle.std.specs.Prelude.{◌≤◌, IfSome};
+    ghost use Rattle.uac_ring.specs.Rings.{ring_frames};
     ghost use Rattle.uac_bench.specs.BenchKept.{BenchStreamFields};
 
     ghost Value = { BenchStreamFields };
 
     ghost view = { λ s. record { ring = s.ring; target = s.target; formed = s.formed; met = s.met } };
+
+    ghost invariant = { λ s. IfSome s.target (λ t. t ≤ ring_frames) };
 }
 
 /// What a tick of a bench brings: the frame that is played, and whether a primed stream's ring was empty.
@@ -149,7 +153,8 @@ impl BenchStream {
 
     /// The level at which it was primed; None while it is priming.
     pub fn target(&self) -> Option<u32>
-        ensures { (s : StreamWorld) → BenchStreamStands self.now s → result ≡ s.target }
+        ensures target { (s : StreamWorld) → BenchStreamStands self.now s → result ≡ s.target }
+        ensures bounded { IfSome result (λ target. target ≤ ring_frames) }
     {
         self.target
     }
