@@ -23,6 +23,14 @@ pub FsPrints-said : {T E : Type 0} (old new : Option (List ℕ)) (r : Result T E
 unfolding fs_spelling_of
 FsPrints-said old new r said w = subst (Writes old new r) (sym (append-nil (spelling_of said))) w
 
+pub FsAppends-said : (old new : Option (List ℕ)) (said : Said) → Appends old new (spelling_of said) → Appends old new (fs_text_of (says_as_run said ∷ []))
+unfolding fs_spelling_of
+FsAppends-said old new said a = subst (Appends old new) (sym (append-nil (spelling_of said))) a
+
+pub fs_front_of_said : (old new : Option (List ℕ)) (said : Said) → AppendsFront old new (spelling_of said) → AppendsFront old new (fs_text_of (says_as_run said ∷ []))
+unfolding fs_spelling_of
+fs_front_of_said old new said a = subst (AppendsFront old new) (sym (append-nil (spelling_of said))) a
+
 -- lines, and then others
 pub FsAppends-lines : (old mid new : Option (List ℕ)) (first second : List FsLine) → Appends old mid (fs_text_of first) → Appends mid new (fs_text_of second)
     → Appends old new (fs_text_of (first ++ second))

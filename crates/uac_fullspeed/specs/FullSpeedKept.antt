@@ -1,5 +1,5 @@
 -- What a bench keeps, for which worlds it stands, and what a line is answered.
-use Rattle.std.specs.Prelude.{◌≡◌, ℕ, ◌+◌, ◌*◌, ◌%◌, ◌≤◌, Bool, true, false, ℤ, List, length, map, Option, None, Some, Result, Ok, Err, OnOk}
+use Rattle.std.specs.Prelude.{◌≡◌, ℕ, ◌+◌, ◌*◌, ◌%◌, ◌^◌, ◌<◌, ◌≤◌, ◌≤ℤ◌, Bool, true, false, ℤ, pos, negsuc, List, length, map, Option, None, Some, Result, Ok, Err, OnOk}
 use Rattle.std.specs.Io.KnownBytes.{Appends}
 use Rattle.uac_edges.specs.Writing.{AppendsFront}
 use Rattle.uac_clock.specs.Ticks.{IsPhaseAfter}
@@ -10,9 +10,10 @@ use Rattle.uac_bench.specs.BenchStreams.{StreamWorld, level_of}
 use Rattle.uac_fullspeed.specs.declared.values.FsNominal.{FsNominal}
 use Rattle.uac_fullspeed.specs.declared.fault.BenchFault.{BenchFault}
 use Rattle.uac_fullspeed.specs.declared.fault.BenchFault.TheVariants as faults
-use Rattle.uac_fullspeed.specs.FullSpeedNominal.{fs_nominal_of}
-use Rattle.uac_fullspeed.specs.FullSpeedWorld.{FullSpeedWorld, ticks_next}
-use Rattle.uac_fullspeed.specs.FullSpeedLines.{FsLine, FsPrints, fs_text_of}
+use Rattle.uac_fullspeed.specs.declared.carry.Brought.{Brought}
+use Rattle.uac_fullspeed.specs.FullSpeedNominal.{IsFsNominal, fs_nominal_of}
+use Rattle.uac_fullspeed.specs.FullSpeedWorld.{FullSpeedWorld, settled}
+use Rattle.uac_fullspeed.specs.FullSpeedLines.{FsLine, FsPrints, fs_text_of, stream_lines}
 use Rattle.uac_fullspeed.specs.FullSpeedSteps.{FsStep, fs_done, fs_refused}
 
 -- what a stream under way is seen as. Its clock and its pace count 65,536ths of a frame.
@@ -27,6 +28,14 @@ pub record FsRunFields : Type 0 where
   pub detail : ℕ
   pub time : ℕ
   pub since : ℕ
+
+-- what holds of it at every moment
+pub record IsFsRun (nominal : FsNominal) (value : ℕ) (deviation : ℤ) (since : ℕ) : Type 0 where
+  pub of_a_rate : IsFsNominal nominal
+  pub fits : value < 2 ^ 24
+  pub low : negsuc 99999 ≤ℤ deviation
+  pub high : deviation ≤ℤ pos 100000
+  pub counted : since < 8
 
 -- 16,384ths of a frame as 65,536ths
 abbrev pub four_times : List ℕ → List ℕ
@@ -65,13 +74,16 @@ pub record FsRunStandsBetween (kept : FsRunFields) (w : FullSpeedWorld) : Type 0
   pub room : HasRoom w.stream
 
 -- what was told was printed: all of it, and what is kept stands for the next world; or at an error a front of it
-abbrev pub FsTells : {E : Type 0} → List FsLine → FullSpeedWorld → FsRunFields → Option (List ℕ) → Option (List ℕ)
-    → Result (Unit {0}) E → Type 0
-FsTells lines next kept old new result = FsPrints old new result lines × OnOk result (FsRunStands kept next)
-
 abbrev pub FsTellsBetween : {E : Type 0} → List FsLine → FullSpeedWorld → FsRunFields → Option (List ℕ) → Option (List ℕ)
     → Result (Unit {0}) E → Type 0
 FsTellsBetween lines next kept old new result = FsPrints old new result lines × OnOk result (FsRunStandsBetween kept next)
+
+-- what a bus frame brings to the stream, in a world that has gone on by it
+abbrev pub CarryTells : {E : Type 0} → Brought → FullSpeedWorld → FsRunFields → Option (List ℕ) → Option (List ℕ)
+    → Result (Unit {0}) E → Type 0
+CarryTells b w kept old new result =
+    FsTellsBetween (stream_lines w.detail b.lost b.frames b.ticks w.stream) (record w { stream = settled b.lost b.frames b.ticks w.stream }) kept old
+    new result
 
 -- what a bench is seen as: the stream, and whether a write failed
 pub record FsBenchFields : Type 0 where

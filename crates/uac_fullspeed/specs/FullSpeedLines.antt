@@ -12,7 +12,8 @@ use Rattle.uac_transcript.specs.declared.report.StreamCounts.{StreamCounts}
 use Rattle.uac_transcript.specs.Transcript.{Said, spelling_of, says_time, says_out, says_over, says_under, says_played, says_level}
 use Rattle.uac_transcript.specs.Transcript.{says_passed, says_steady, says_domain, lost_or_ok, number_or_dash}
 use Rattle.uac_bench.specs.BenchStreams.{StreamWorld, level_of, arrival_of, after_tick, is_dry, played_in}
-use Rattle.uac_fullspeed.specs.FullSpeedWorld.{FullSpeedWorld, is_steady_in, size_next, ticks_next, at_ticks, settled, before_report}
+use Rattle.uac_fullspeed.specs.declared.printing.Shown.{Shown}
+use Rattle.uac_fullspeed.specs.FullSpeedWorld.{FullSpeedWorld, is_steady_in, size_next, ticks_next, at_ticks, settled, passed, before_report}
 use Rattle.uac_fullspeed.specs.FullSpeedWorld.{is_report_due, report_in, bus_frame}
 
 pub data FsLine : Type 0 where
@@ -45,9 +46,9 @@ abbrev pub if_at : Bool → FsLine → List FsLine
 if_at true line = line ∷ []
 if_at false line = []
 
--- from detail 2 on its number is said, counted from 1
+-- from detail 2 on the number of the bus frame that has come is said, counted from 1
 abbrev pub number_lines : FullSpeedWorld → List FsLine
-number_lines w = if_at (nat_le 2 w.detail) (says_as_run (says_time (at_most_u64 (length w.steps + 1))))
+number_lines w = if_at (nat_le 2 w.detail) (says_as_run (says_time (at_most_u64 (length w.steps))))
 
 -- a packet that is over is said at any detail
 abbrev pub over_lines : PrintedArrival → List FsLine
@@ -81,7 +82,7 @@ stream_lines detail packet_lost size ticks s =
 
 -- the lines up to the report, which is the last
 unfoldable pub lines_before_report : Bool → FullSpeedWorld → List FsLine
-lines_before_report packet_lost w = number_lines w ++ stream_lines w.detail packet_lost (size_next w) (ticks_next w) w.stream
+lines_before_report packet_lost w = number_lines (passed packet_lost w) ++ stream_lines w.detail packet_lost (size_next w) (ticks_next w) w.stream
 
 abbrev pub report_lines : Bool → FullSpeedWorld → List FsLine
 report_lines report_lost w = report_lines_if (is_report_due w) w.detail report_lost (report_in w)
@@ -96,8 +97,22 @@ frames_lines (suc count) packet_lost report_lost w =
 
 -- ---- the report of the bench
 
-unfoldable pub state_lines : FullSpeedWorld → List FsLine
-state_lines w =
-    says_as_run (says_passed (at_most_u64 (length w.steps))) ∷ says_as_run (says_steady (is_steady_in w))
-    ∷ says_as_run (says_domain 1 (Some w.rate) (at_most_u64 (sum w.steps / 16384)))
-    ∷ says_stream (level_of w.stream) w.stream.target w.stream.met ∷ []
+-- the bus frames since the start, whether all was steady, the domain's rate and ticks, and the stream
+abbrev pub shown_lines : Shown → List FsLine
+shown_lines s =
+    says_as_run (says_passed s.time) ∷ says_as_run (says_steady s.steady) ∷ says_as_run (says_domain 1 (Some s.rate) s.ticks)
+    ∷ says_stream s.level s.target s.met ∷ []
+
+abbrev pub shown_in : FullSpeedWorld → Shown
+shown_in w = record {
+  time = at_most_u64 (length w.steps);
+  steady = is_steady_in w;
+  rate = w.rate;
+  ticks = at_most_u64 (sum w.steps / 16384);
+  level = level_of w.stream;
+  target = w.stream.target;
+  met = w.stream.met;
+}
+
+abbrev pub state_lines : FullSpeedWorld → List FsLine
+state_lines w = shown_lines (shown_in w)

@@ -86,15 +86,18 @@ whole_by None lost whole = true
 whole_by (Some target) true whole = false
 whole_by (Some target) false whole = whole
 
--- the world up to the report
-unfoldable pub before_report : Bool → FullSpeedWorld → FullSpeedWorld
-before_report packet_lost w =
+-- the host's pace and the clock have gone on by a bus frame
+unfoldable pub passed : Bool → FullSpeedWorld → FullSpeedWorld
+passed packet_lost w =
     record w {
       steps = w.steps ++ step_next w ∷ [];
       values = w.values ++ w.value ∷ [];
-      stream = settled packet_lost (size_next w) (ticks_next w) w.stream;
       whole = whole_by w.stream.target packet_lost w.whole;
     }
+
+-- the world up to the report
+unfoldable pub before_report : Bool → FullSpeedWorld → FullSpeedWorld
+before_report packet_lost w = record (passed packet_lost w) { stream = settled packet_lost (size_next w) (ticks_next w) w.stream }
 
 -- 5. in every eighth bus frame a report is formed
 abbrev pub is_report_due : FullSpeedWorld → Bool

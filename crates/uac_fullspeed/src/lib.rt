@@ -1,6 +1,8 @@
 //! One mono stream on a full-speed bus: its rates, reports of three bytes, a bench under a script, and the bands in which its ring stays.
 #![tactic(auto)]
 
+/// A bus frame of the stream.
+mod carry;
 /// Why a line of a bench isn't done.
 mod fault;
 /// Laws, each the contract of a function that does nothing.
@@ -11,6 +13,8 @@ mod printing;
 mod rates;
 /// Reports and their bytes.
 mod reports;
+/// A stream under way.
+mod run;
 /// What follows from a sampling rate.
 mod values;
 

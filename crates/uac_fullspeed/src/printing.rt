@@ -1,14 +1,16 @@
 // The lines of a bench.
-ghost use Rattle.std.specs.Prelude.{◌≡◌, ◌+◌, ◌<◌, ◌≤◌, ◌^◌, ◌∷◌, [], ◌++◌, ℕ, length, nat_le};
+ghost use Rattle.std.specs.Prelude.{◌≡◌, ◌+◌, ◌<◌, ◌≤◌, ◌^◌, ◌∷◌, [], ◌++◌, ℕ, length, nat_le, Some};
 ghost use Rattle.uac_edges.specs.Faults.{HasCause};
-ghost use Rattle.uac_transcript.specs.Transcript.{lost_or_ok, number_or_dash, says_level, says_out, says_played, says_time, says_under};
+ghost use Rattle.uac_transcript.specs.Transcript.{lost_or_ok, number_or_dash, says_domain, says_level, says_out, says_played, says_steady};
+ghost use Rattle.uac_transcript.specs.Transcript.{says_time, says_under};
 ghost use Rattle.uac_fullspeed.specs.FullSpeedLines.{FsPrints, fs_spelling_of, if_at, packet_lines, says_as_run, says_report, says_stream};
+ghost use Rattle.uac_fullspeed.specs.FullSpeedLines.{shown_lines};
 
 use uac_edges::{Failed, Sink, TextLine, give_all};
 use uac_pcm::Frame;
 use uac_transcript::{
-    PrintedArrival, StreamCounts, write_level, write_out, write_over, write_played, write_time,
-    write_under,
+    PrintedArrival, StreamCounts, write_domain, write_level, write_out, write_over, write_passed,
+    write_played, write_steady, write_time, write_under,
 };
 
 /// Prints the number of a bus frame, from detail 2 on.
@@ -162,9 +164,52 @@ fn push_number_or_dash(text: &mut TextLine<192>, number: Option<u32>)
     }
 }
 
+/// What the report of a bench shows: the bus frames since the start, whether all was steady, the rate in Hz, the ticks, and of the stream
+/// its level and target, and what it met.
+#[derive(Clone, Copy, Debug, PartialEq, Eq)]
+pub(crate) struct Shown {
+    pub(crate) time: u64,
+    pub(crate) steady: bool,
+    pub(crate) rate: u32,
+    pub(crate) ticks: u64,
+    pub(crate) level: u32,
+    pub(crate) target: Option<u32>,
+    pub(crate) met: StreamCounts,
+}
+
+/// Prints the report of a bench.
+pub(crate) fn write_shown<K: Sink>(sink: &mut K, shown: Shown) -> Result<(), Failed>
+    ensures printed { FsPrints (K.written sink.old) (K.written sink.new) result (shown_lines shown) }
+    ensures cause { HasCause (K.faults sink.old) (K.faults sink.new) result }
+{
+    write_passed(sink, shown.time)?;
+    write_from_steady(sink, shown)
+}
+
+/// Prints it from whether all was steady on.
+fn write_from_steady<K: Sink>(sink: &mut K, shown: Shown) -> Result<(), Failed>
+    ensures printed { FsPrints (K.written sink.old) (K.written sink.new) result
+        (says_as_run (says_steady shown.steady) ∷ says_as_run (says_domain 1 (Some shown.rate) shown.ticks)
+        ∷ says_stream shown.level shown.target shown.met ∷ []) }
+    ensures cause { HasCause (K.faults sink.old) (K.faults sink.new) result }
+{
+    write_steady(sink, shown.steady)?;
+    write_from_domain(sink, shown)
+}
+
+/// Prints it from the domain on.
+fn write_from_domain<K: Sink>(sink: &mut K, shown: Shown) -> Result<(), Failed>
+    ensures printed { FsPrints (K.written sink.old) (K.written sink.new) result
+        (says_as_run (says_domain 1 (Some shown.rate) shown.ticks) ∷ says_stream shown.level shown.target shown.met ∷ []) }
+    ensures cause { HasCause (K.faults sink.old) (K.faults sink.new) result }
+{
+    write_domain(sink, 1, Some(shown.rate), shown.ticks)?;
+    write_stream(sink, shown.level, shown.target, shown.met)
+}
+
 /// Prints the stream: its level and target, and what it met.
 #[tactic(auto, using(crate::proofs::FsPrintingLemmas::prints))]
-pub(crate) fn write_stream<K: Sink>(
+fn write_stream<K: Sink>(
     sink: &mut K,
     level: u32,
     target: Option<u32>,
