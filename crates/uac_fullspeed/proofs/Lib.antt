@@ -3,5 +3,8 @@ pub mod CarryLemmas
 pub mod FsPrintingLemmas
 pub mod ReportsLemmas
 pub mod RoomLemmas
+pub mod RunLemmas
+pub mod SumsLemmas
 pub mod TellingLemmas
+pub mod WorldLemmas
 mod Worked

@@ -1,6 +1,7 @@
 -- What a bench keeps, for which worlds it stands, and what a line is answered.
-use Rattle.std.specs.Prelude.{◌≡◌, ℕ, ◌+◌, ◌*◌, ◌%◌, ◌^◌, ◌<◌, ◌≤◌, ◌≤ℤ◌, Bool, true, false, ℤ, pos, negsuc, List, length, map, Option, None, Some, Result, Ok, Err, OnOk}
+use Rattle.std.specs.Prelude.{◌≡◌, ℕ, ◌+◌, ◌*◌, ◌%◌, ◌^◌, ◌<◌, ◌≤◌, ◌≤ℤ◌, Bool, true, false, ℤ, pos, negsuc, List, length, map, Option, None, Some, Result, Ok, Err, OnOk, IfErr}
 use Rattle.std.specs.Io.KnownBytes.{Appends}
+use Rattle.uac_edges.specs.Faults.{Rose}
 use Rattle.uac_edges.specs.Writing.{AppendsFront}
 use Rattle.uac_clock.specs.Ticks.{IsPhaseAfter}
 use Rattle.uac_rate.specs.Steadiness.{SteadyFields, SteadyStands}
@@ -115,3 +116,14 @@ abbrev pub FsDoes : {K : Type 0} → FsStep → (K → FullSpeedWorld → Type 0
     → Result (Unit {0}) BenchFault → Type 0
 FsDoes s Stands kept written written' (Ok _) = FsReaches s Stands kept written written'
 FsDoes s Stands kept written written' (Err fault) = FsPrevents fault s written written'
+
+-- a rule of the script that a line breaks
+abbrev pub IsScript : BenchFault → Type 0
+IsScript (faults.Script rule) = Unit {0}
+IsScript faults.WriteFault = ⊥
+
+-- A failed write has its cause in this call; the count of faults never falls, and where the line is done no write met one.
+pub record HasFsCause {T : Type 0} (old new : ℕ) (result : Result T BenchFault) : Type 0 where
+  pub cause : IfErr result (λ fault. fault ≡ faults.WriteFault → Rose old new)
+  pub never_falls : old ≤ new
+  pub faultless : OnOk result (new ≡ old)

@@ -1,4 +1,4 @@
-// The lines of a bench.
+// The lines that a bench prints.
 ghost use Rattle.std.specs.Prelude.{◌≡◌, ◌+◌, ◌<◌, ◌≤◌, ◌^◌, ◌∷◌, [], ◌++◌, ℕ, length, nat_le, Some};
 ghost use Rattle.uac_edges.specs.Faults.{HasCause};
 ghost use Rattle.uac_transcript.specs.Transcript.{lost_or_ok, number_or_dash, says_domain, says_level, says_out, says_played, says_steady};
