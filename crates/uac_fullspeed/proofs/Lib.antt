@@ -6,5 +6,7 @@ pub mod RoomLemmas
 pub mod RunLemmas
 pub mod SumsLemmas
 pub mod TellingLemmas
+pub mod StepsLemmas
 pub mod WorldLemmas
+pub mod PromiseLemmas
 mod Worked

@@ -62,9 +62,8 @@ older_keeps lost (latest ∷ earlier) rest h = by (nat_lt 3 (run (lost ∷ lates
 report_before : (lost : Bool) (h : SteadyHistory) → is_steady (with_report_given 0 lost h) ≡ true → is_steady h ≡ true
 report_before lost h steady =
     let both = and_parts (list_all is_slight h.deviations) _ steady in
-    both_true both.0 (older_keeps lost (h.feedback 0) _ both.1) where
-      both_true : {a b : Bool} → a ≡ true → b ≡ true → (a && b) ≡ true
-      both_true p q = ap (λ (x : Bool). x && _) p ∙ q
+    let rest = older_keeps lost (h.feedback 0) _ both.1 in
+    ap (λ (b : Bool). b && loses_few_reports h.feedback eight_streams) both.0 ∙ rest
 
 deviation_before : (ppm : ℤ) (h : SteadyHistory) → is_steady (with_deviation_given ppm h) ≡ true → (is_slight ppm ≡ true) × (is_steady h ≡ true)
 deviation_before ppm h steady = by (is_slight ppm) (list_all is_slight h.deviations) (loses_few_reports h.feedback eight_streams) steady where
@@ -420,7 +419,13 @@ StepKeeps phrase w (fs_refused rule) = Unit {0}
 deviated : (ppm : ℤ) (w : FullSpeedWorld) → is_slight ppm ≡ true → IsGood w → IsGood (with_deviation ppm w)
 unfolding with_deviation
 deviated ppm w slight good = record {
-  nominal = good.nominal; slight = slight; below = good.below; under = good.under; over = good.over; lost = good.lost; waited_few = good.waited_few;
+  nominal = good.nominal;
+  slight = slight;
+  below = good.below;
+  under = good.under;
+  over = good.over;
+  lost = good.lost;
+  waited_few = good.waited_few;
   kept = by w.stream.target good.kept;
 } where
   by : (o : Option ℕ) → KeptBy o w (length w.steps % 8) → KeptBy o (with_deviation ppm w) (length w.steps % 8)
@@ -430,7 +435,13 @@ deviated ppm w slight good = record {
 detailed : (detail : ℕ) (w : FullSpeedWorld) → IsGood w → IsGood (with_detail detail w)
 unfolding with_detail
 detailed detail w good = record {
-  nominal = good.nominal; slight = good.slight; below = good.below; under = good.under; over = good.over; lost = good.lost; waited_few = good.waited_few;
+  nominal = good.nominal;
+  slight = good.slight;
+  below = good.below;
+  under = good.under;
+  over = good.over;
+  lost = good.lost;
+  waited_few = good.waited_few;
   kept = by w.stream.target good.kept;
 } where
   by : (o : Option ℕ) → KeptBy o w (length w.steps % 8) → KeptBy o (with_detail detail w) (length w.steps % 8)
@@ -454,9 +465,10 @@ deviate_keeps domain ppm w true = λ steady.
 
 frames_keep : (count : ℤ) (marks : List PhraseMark) (w : FullSpeedWorld) (b : Bool) → StepKeeps (microframes_line count marks) w (unless b 6 (frames_step (natural_of_int count) (loses_packet marks) (loses_report marks) w))
 frames_keep count marks w false = tt
-frames_keep count marks w true = λ steady.
-    (frames_before (natural_of_int count) (loses_packet marks) (loses_report marks) w steady,
-    λ good. frames_kept (natural_of_int count) (loses_packet marks) (loses_report marks) w good steady)
+frames_keep count marks w true = λ steady. (
+  frames_before (natural_of_int count) (loses_packet marks) (loses_report marks) w steady,
+  λ good. frames_kept (natural_of_int count) (loses_packet marks) (loses_report marks) w good steady,
+)
 
 detail_keeps : (detail : ℕ) (level : ℤ) (w : FullSpeedWorld) → StepKeeps (detail_line level) w (fs_done (with_detail detail w) [])
 unfolding with_detail

@@ -389,11 +389,23 @@ report_kept false w (Some target) room few kept =
 
 given_good : (lost : Bool) (w : FullSpeedWorld) → lost_run (report_given lost (report_in w) w) ≤ 3 → Good w 8 → Good (report_given lost (report_in w) w) 0
 given_good true w few good = record {
-  nominal = good.nominal; slight = good.slight; below = good.below; under = good.under; over = good.over; lost = few; waited_few = omega arith;
+  nominal = good.nominal;
+  slight = good.slight;
+  below = good.below;
+  under = good.under;
+  over = good.over;
+  lost = few;
+  waited_few = omega arith;
   kept = report_kept true w w.stream.target (leaves_room w.nominal good.nominal) few good.kept;
 }
 given_good false w few good = record {
-  nominal = good.nominal; slight = good.slight; below = good.below; under = good.under; over = good.over; lost = few; waited_few = omega arith;
+  nominal = good.nominal;
+  slight = good.slight;
+  below = good.below;
+  under = good.under;
+  over = good.over;
+  lost = few;
+  waited_few = omega arith;
   kept = report_kept false w w.stream.target (leaves_room w.nominal good.nominal) few good.kept;
 }
 

@@ -4,6 +4,7 @@ pub mod FullSpeedNominal
 pub mod FullSpeedWorld
 pub mod FullSpeedLines
 pub mod FullSpeedSteps
+pub mod FullSpeedPromise
 -- What the laws say besides.
 pub mod FullSpeedBands
 -- What the contracts below them cite: steps of the code, no part of what is promised.

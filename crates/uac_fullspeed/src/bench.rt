@@ -78,11 +78,7 @@ impl FsBench {
     /// # Errors
     ///
     /// The faults of `line`.
-    pub fn lent_line<K: Sink>(
-        &mut self,
-        line: LentLine<'_>,
-        sink: &mut K,
-    ) -> Result<(), BenchFault>
+    pub fn lent_line<K: Sink>(&mut self, line: LentLine<'_>, sink: &mut K) -> Result<(), BenchFault>
         requires { IsLentInRange line }
 
         // What it does, in every world for which the bench stands: the step of what the line says, with its lines.

@@ -3,6 +3,7 @@ ghost use Rattle.uac_fullspeed.specs.FullSpeedNominal.{FsReportsOverIntegers};
 ghost use Rattle.uac_fullspeed.specs.FullSpeedBands.{FsRatesHaveBands, FsSteadyClocksAreSlight, FramesKeepRobust, FsReportsKeepRobust};
 ghost use Rattle.uac_fullspeed.specs.FullSpeedBands.{FramesKeepTight, FsReportsKeepTight, FsRobustIsNear, FsTightIsNear};
 ghost use Rattle.uac_fullspeed.specs.FullSpeedBands.{FsRingsHoldEnough, FsPrimedInBands};
+ghost use Rattle.uac_fullspeed.specs.FullSpeedPromise.{FullSpeedKeepsPromises, HappeningsPrint};
 
 /// Each of the ten rates has room, and a band of 65 frames; a steady clock is off by at most a thousandth of its rate.
 pub fn fs_rates_have_bands()
@@ -35,4 +36,12 @@ pub fn fs_levels_stay_near()
     ensures tight { FsTightIsNear }
     ensures moments { FsRingsHoldEnough }
     ensures primed { FsPrimedInBands }
+{}
+
+/// Of every list of lines that leaves a steady bench, and so of every steady front of a script: at the end of each bus frame the level of a
+/// primed stream is within 135 frames of its target, and within 8 where no packet was lost since it was primed; at every moment its ring
+/// holds 24 to 584 frames; no ring is found empty, and none has no room. So say the printed lines, too.
+pub fn full_speed_keeps_promises()
+    ensures promised { FullSpeedKeepsPromises }
+    ensures printed { HappeningsPrint }
 {}

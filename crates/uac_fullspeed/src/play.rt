@@ -96,8 +96,10 @@ fn frames<K: Sink>(
     if !are_of_stream(marks) {
         return Err(BenchFault::Script(6));
     }
-    run.frames(count, loses_packet(marks), loses_report(marks), sink)?;
-    Ok(())
+    match run.frames(count, loses_packet(marks), loses_report(marks), sink) {
+        Ok(()) => Ok(()),
+        Err(failed) => Err(BenchFault::from(failed)),
+    }
 }
 
 /// The report.
