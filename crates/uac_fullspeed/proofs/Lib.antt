@@ -10,3 +10,4 @@ pub mod StepsLemmas
 pub mod WorldLemmas
 pub mod PromiseLemmas
 mod Worked
+mod WorkedBench
