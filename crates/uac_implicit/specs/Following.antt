@@ -1,56 +1,55 @@
 -- Implicit feedback (USB 2.0, 5.12.4.3): a pair of mono streams of one clock at high speed. The host sends as many frames as the last
--- packet of the device that came had. The world's lists begin with the pair.
-use Rattle.std.specs.Prelude.{◌≡◌, ℕ, zero, suc, ◌+◌, ◌-◌, ◌*◌, ◌/◌, ◌≤◌, Bool, true, false, ◌&&◌, ◌||◌, not, nat_le, if◌then◌else◌, ℤ, pos, List, [], ◌∷◌, ◌++◌, length, take, drop, map, replicate, Option, Some, None, min, max}
+-- packet of the device that came had. Stream 1 goes to the device and plays at terminal 1, stream 2 comes from it. The world's lists begin
+-- with the pair. The order of events and what is printed are the profile's.
+use Rattle.std.specs.Prelude.{ℕ, zero, suc, ◌+◌, Bool, true, false, ◌&&◌, ◌||◌, not, nat_le, if◌then◌else◌, ℤ, pos, List, [], ◌∷◌, ◌++◌, length, map, replicate, Option, Some, None, min, max}
 use Rattle.uac_clock.specs.declared.values.Nominal.{Nominal}
+use Rattle.uac_clock.specs.Nominal.{values_of, step_of}
 use Rattle.uac_clock.specs.Ticks.{ticks_in}
 use Rattle.uac_rate.specs.PacketSizes.{frames_in_packet}
-
--- what is given in a microframe: the clock's step, and whether the packet to the device and the one to the host were lost
-pub record Given : Type 0 where
-  pub step : ℕ
-  pub out_lost : Bool
-  pub in_lost : Bool
+use Rattle.uac_units.specs.Hearing.{at_most_u64}
+use Rattle.uac_transcript.specs.declared.packets.PrintedArrival.{PrintedArrival}
+use Rattle.uac_transcript.specs.declared.packets.PrintedArrival.TheVariants as arrivals
+use Rattle.uac_transcript.specs.Transcript.{Said, says_time, says_out, says_over, says_in, says_frame, says_under, says_played, says_level}
+use Rattle.uac_bench.specs.BenchStreams.{StreamWorld, stream_start, level_of, arrival_of, after_packet, played_in, after_tick, is_dry, with_zeros, after_priming}
 
 pub record PairWorld : Type 0 where
-  -- the clock's steps
+  -- the rate of the clock in Hz, what it is off by in ppm, and its steps, one for each microframe
+  pub rate : ℕ
+  pub deviation : ℤ
   pub steps : List ℕ
-  -- the stream to the device: all frames since it last began to prime, how many of them were played, the level at which it was primed,
-  -- none while it is priming, and how many frames were formed
-  pub arrived : List ℤ
-  pub played : ℕ
-  pub target : Option ℕ
-  pub formed : ℕ
-  -- the stream to the host: the frames in its ring, and how many frames the packets heard had, the latest first
-  pub waiting : List ℤ
+  -- the stream to the device
+  pub out : StreamWorld
+  -- the stream from the device: the frames in its ring, and how many frames the packets heard had, the latest first
+  pub waiting : List (List ℤ)
   pub heard : List ℕ
+  -- how many microframes there were, how much is printed of each, and how many packets from the device were lost; that count stands still
+  -- at the greatest number of 64 bits
   pub time : ℕ
-  pub under : ℕ
-  pub over : ℕ
-  -- what nothing prints: whether the last packet to the host was lost, and how many microframes since the stream was primed lost their
-  -- packet, or came after a lost packet to the host
+  pub detail : ℕ
+  pub in_lost : ℕ
+  -- what nothing prints: whether the last packet from the device was lost, and how many microframes since the stream was primed lost
+  -- their packet to the device, or came after a lost one from it
   pub in_was_lost : Bool
   pub strayed : ℕ
 
-abbrev pub pair_start : PairWorld
-pair_start = record {
-  steps = [];
-  arrived = [];
-  played = 0;
-  target = None;
-  formed = 0;
-  waiting = [];
-  heard = [];
-  time = 0;
-  under = 0;
-  over = 0;
-  in_was_lost = false;
-  strayed = 0;
+unfoldable pub pair_start : ℕ → PairWorld
+pair_start rate = record {
+  rate = rate; deviation = pos 0; steps = []; out = stream_start; waiting = []; heard = []; time = 0; detail = 0; in_lost = 0;
+  in_was_lost = false; strayed = 0;
 }
 
-abbrev pub pair_level : PairWorld → ℕ
-pair_level w = length w.arrived - w.played
+-- the packets that are lost in a microframe: that to the device, and that from it
+pub record Losses : Type 0 where
+  pub loses_out : Bool
+  pub loses_in : Bool
 
--- a number of frames, clamped between the least packet and the greatest
+-- the most frames in the ring of the stream to the device
+abbrev pub most_frames : ℕ
+most_frames = 2048
+
+-- ---- the host
+
+-- a number of frames, held between the least packet and the greatest
 abbrev pub clamped : Nominal → ℕ → ℕ
 clamped values frames = max values.lo (min frames values.hi)
 
@@ -59,61 +58,44 @@ abbrev pub size_by : Nominal → ℕ → List ℕ → ℕ
 size_by values microframe [] = frames_in_packet 1 (replicate microframe values.f)
 size_by values microframe (latest ∷ older) = clamped values latest
 
--- the frames that are formed: each has its number
-abbrev pub numbered : ℕ → ℕ → List ℤ
-numbered formed zero = []
-numbered formed (suc count) = pos (suc formed) ∷ numbered (suc formed) count
+unfoldable pub size_next : PairWorld → ℕ
+size_next w = size_by (values_of w.rate) (suc w.time) w.heard
 
--- 1. the packet to the device: lost, kept, or over
-abbrev pub kept_by : Bool → Bool → List ℤ → PairWorld → PairWorld
-kept_by true fits frames w = w
-kept_by false true frames w = record w { arrived = w.arrived ++ frames }
-kept_by false false frames w = record w { over = suc w.over }
+-- ---- the clock
 
-unfoldable pub sent_out : Nominal → Given → PairWorld → PairWorld
-sent_out values given w =
-    let size = size_by values (suc w.time) w.heard in
-    let after = kept_by given.out_lost (nat_le (pair_level w + size) 2048) (numbered w.formed size) w in
-    record after { formed = w.formed + size }
+unfoldable pub step_next : PairWorld → ℕ
+step_next w = step_of (values_of w.rate) w.deviation
 
--- 2. the packet to the host has all that waits; the first one has nothing yet, and isn't heard
+unfoldable pub ticks_next : PairWorld → ℕ
+ticks_next w = ticks_in (w.steps ++ step_next w ∷ [])
+
+-- ---- the steps of a microframe
+
+-- 1. the packet to the device
+unfoldable pub sent_out : Bool → PairWorld → PairWorld
+sent_out lost w = record w { out = after_packet most_frames lost (size_next w) w.out }
+
+-- 2. the packet from the device has all that waits; the first one has nothing yet, and isn't heard
 abbrev pub hears : Bool → ℕ → ℕ → List ℕ → List ℕ
 hears true time frames heard = heard
 hears false zero frames heard = heard
 hears false (suc time) frames heard = frames ∷ heard
 
-unfoldable pub sent_in : Given → PairWorld → PairWorld
-sent_in given w = record w { waiting = []; heard = hears given.in_lost w.time (length w.waiting) w.heard }
+unfoldable pub sent_in : Bool → PairWorld → PairWorld
+sent_in lost w =
+    record w {
+      waiting = [];
+      heard = hears lost w.time (length w.waiting) w.heard;
+      in_lost = if lost then at_most_u64 (w.in_lost + 1) else w.in_lost;
+    }
 
--- 3. a tick plays a frame, and puts it into the ring of the stream to the host
-abbrev pub put : ℤ → PairWorld → PairWorld
-put sample w = record w { waiting = w.waiting ++ sample ∷ [] }
+-- 3. a tick plays a frame, and puts it into the ring of the stream from the device
+unfoldable pub tick : PairWorld → PairWorld
+tick w = record w { out = after_tick w.out; waiting = w.waiting ++ played_in w.out ∷ [] }
 
-abbrev pub tick_by : Option ℕ → List ℤ → PairWorld → PairWorld
-tick_by None rest w = put (pos 0) w
-tick_by (Some target) [] w = put (pos 0) (record w { arrived = []; played = 0; target = None; under = suc w.under })
-tick_by (Some target) (sample ∷ rest) w = put sample (record w { played = suc w.played })
-
-unfoldable pub ticks_of : ℕ → PairWorld → PairWorld
-ticks_of zero w = w
-ticks_of (suc count) w = ticks_of count (tick_by w.target (drop w.played w.arrived) w)
-
-abbrev pub ticks_next : Given → PairWorld → ℕ
-ticks_next given w = ticks_in (w.steps ++ given.step ∷ [])
-
--- 4. a lost packet is replaced by a zero frame for each tick
-abbrev pub replaced : Bool → ℕ → PairWorld → PairWorld
-replaced false ticks w = w
-replaced true ticks w = record w { arrived = w.arrived ++ replicate ticks (pos 0) }
-
--- 5. a priming stream with 256 frames becomes primed
-abbrev pub primed_by : Option ℕ → Bool → PairWorld → PairWorld
-primed_by (Some target) enough w = w
-primed_by None true w = record w { target = Some (pair_level w) }
-primed_by None false w = w
-
-unfoldable pub primed : PairWorld → PairWorld
-primed w = primed_by w.target (nat_le 256 (pair_level w)) w
+unfoldable pub ticks : ℕ → PairWorld → PairWorld
+ticks zero w = w
+ticks (suc count) w = ticks count (tick w)
 
 -- what strays: nothing before the stream is primed
 abbrev pub strays : Option ℕ → Bool → ℕ → ℕ
@@ -121,18 +103,77 @@ strays None any count = 0
 strays (Some target) true count = suc count
 strays (Some target) false count = count
 
-unfoldable pub microframe : Nominal → Given → PairWorld → PairWorld
-microframe values given w =
-    let ticks = ticks_next given w in
-    let at_ticks = sent_in given (sent_out values given w) in
-    let after = primed (replaced given.out_lost ticks (ticks_of ticks at_ticks)) in
-    record after {
-      steps = w.steps ++ given.step ∷ [];
-      time = suc w.time;
-      in_was_lost = given.in_lost;
-      strayed = strays w.target (given.out_lost || w.in_was_lost) w.strayed;
+-- 4. and 5. a lost packet to the device is replaced by a zero frame for each tick, and a priming stream with enough frames becomes primed;
+-- `before` is the world before the microframe
+unfoldable pub ended : Losses → PairWorld → PairWorld → PairWorld
+ended losses before w =
+    record before {
+      steps = before.steps ++ step_next before ∷ [];
+      out = after_priming (if losses.loses_out then with_zeros (ticks_next before) w.out else w.out);
+      waiting = w.waiting;
+      heard = w.heard;
+      in_lost = w.in_lost;
+      time = suc before.time;
+      in_was_lost = losses.loses_in;
+      strayed = strays before.out.target (losses.loses_out || before.in_was_lost) before.strayed;
     }
 
-unfoldable pub after_all : Nominal → List Given → PairWorld → PairWorld
-after_all values [] w = w
-after_all values (given ∷ more) w = after_all values more (microframe values given w)
+-- the world at the ticks, and after them
+unfoldable pub at_ticks : Losses → PairWorld → PairWorld
+at_ticks losses w = sent_in losses.loses_in (sent_out losses.loses_out w)
+
+unfoldable pub microframe : Losses → PairWorld → PairWorld
+microframe losses w = ended losses w (ticks (ticks_next w) (at_ticks losses w))
+
+unfoldable pub microframes : Losses → ℕ → PairWorld → PairWorld
+microframes losses zero w = w
+microframes losses (suc count) w = microframes losses count (microframe losses w)
+
+-- ---- what is printed
+
+-- a line, where it is said
+abbrev pub if_said : Bool → List Said → List Said
+if_said true lines = lines
+if_said false lines = []
+
+abbrev pub over_lines : PrintedArrival → List Said
+over_lines arrivals.Ok = []
+over_lines arrivals.Lost = []
+over_lines arrivals.Over = says_over 1 ∷ []
+
+abbrev pub arrival_lines : ℕ → ℕ → PrintedArrival → List Said
+arrival_lines detail size arrived = if_said (nat_le 2 detail) (says_out 1 size arrived ∷ []) ++ over_lines arrived
+
+unfoldable pub out_lines : Bool → PairWorld → List Said
+out_lines lost w = arrival_lines w.detail (size_next w) (arrival_of most_frames lost (size_next w) w.out)
+
+unfoldable pub in_lines : Bool → PairWorld → List Said
+in_lines lost w =
+    if_said (nat_le 2 w.detail) (says_in 2 (length w.waiting) lost ∷ [])
+    ++ if_said (nat_le 1 w.detail && not lost) (map (says_frame 2) w.waiting)
+
+unfoldable pub tick_lines : PairWorld → List Said
+tick_lines w =
+    if_said (is_dry w.out) (says_under 1 ∷ []) ++ if_said (nat_le 1 w.detail) (says_played 1 (played_in w.out) ∷ [])
+
+unfoldable pub ticks_lines : ℕ → PairWorld → List Said
+ticks_lines zero w = []
+ticks_lines (suc count) w = tick_lines w ++ ticks_lines count (tick w)
+
+abbrev pub time_lines : PairWorld → List Said
+time_lines w = if_said (nat_le 2 w.detail) (says_time (at_most_u64 (suc w.time)) ∷ [])
+
+abbrev pub level_lines : PairWorld → List Said
+level_lines w = if_said (nat_le 2 w.detail) (says_level 1 (level_of w.out) w.out.target ∷ [])
+
+-- the lines of a microframe
+unfoldable pub packet_lines : Losses → PairWorld → List Said
+packet_lines losses w = out_lines losses.loses_out w ++ in_lines losses.loses_in (sent_out losses.loses_out w)
+
+unfoldable pub microframe_lines : Losses → PairWorld → List Said
+microframe_lines losses w =
+    time_lines w ++ (packet_lines losses w ++ (ticks_lines (ticks_next w) (at_ticks losses w) ++ level_lines (microframe losses w)))
+
+unfoldable pub microframes_lines : Losses → ℕ → PairWorld → List Said
+microframes_lines losses zero w = []
+microframes_lines losses (suc count) w = microframe_lines losses w ++ microframes_lines losses count (microframe losses w)
