@@ -10,6 +10,7 @@ use Rattle.uac_units.specs.Hearing.{at_most_u64}
 use Rattle.uac_transcript.specs.declared.packets.PrintedArrival.{PrintedArrival}
 use Rattle.uac_transcript.specs.declared.packets.PrintedArrival.TheVariants as arrivals
 use Rattle.uac_transcript.specs.Transcript.{Said, says_time, says_out, says_over, says_in, says_frame, says_under, says_played, says_level}
+use Rattle.uac_implicit.specs.declared.marks.Losses.{Losses}
 use Rattle.uac_bench.specs.BenchStreams.{StreamWorld, stream_start, level_of, arrival_of, after_packet, played_in, after_tick, is_dry, with_zeros, after_priming}
 
 pub record PairWorld : Type 0 where
@@ -38,14 +39,18 @@ pair_start rate = record {
   in_was_lost = false; strayed = 0;
 }
 
--- the packets that are lost in a microframe: that to the device, and that from it
-pub record Losses : Type 0 where
-  pub loses_out : Bool
-  pub loses_in : Bool
-
 -- the most frames in the ring of the stream to the device
 abbrev pub most_frames : ℕ
 most_frames = 2048
+
+-- the world after so many of the same, and the lines that are said on the way to it
+unfoldable pub times : {W : Type 0} → (W → W) → ℕ → W → W
+times next zero w = w
+times next (suc count) w = times next count (next w)
+
+unfoldable pub lines_times : {W : Type 0} → (W → List Said) → (W → W) → ℕ → W → List Said
+lines_times says next zero w = []
+lines_times says next (suc count) w = says w ++ lines_times says next count (next w)
 
 -- ---- the host
 
@@ -93,9 +98,8 @@ sent_in lost w =
 unfoldable pub tick : PairWorld → PairWorld
 tick w = record w { out = after_tick w.out; waiting = w.waiting ++ played_in w.out ∷ [] }
 
-unfoldable pub ticks : ℕ → PairWorld → PairWorld
-ticks zero w = w
-ticks (suc count) w = ticks count (tick w)
+abbrev pub ticks : ℕ → PairWorld → PairWorld
+ticks count w = times tick count w
 
 -- what strays: nothing before the stream is primed
 abbrev pub strays : Option ℕ → Bool → ℕ → ℕ
@@ -125,9 +129,8 @@ at_ticks losses w = sent_in losses.loses_in (sent_out losses.loses_out w)
 unfoldable pub microframe : Losses → PairWorld → PairWorld
 microframe losses w = ended losses w (ticks (ticks_next w) (at_ticks losses w))
 
-unfoldable pub microframes : Losses → ℕ → PairWorld → PairWorld
-microframes losses zero w = w
-microframes losses (suc count) w = microframes losses count (microframe losses w)
+abbrev pub microframes : Losses → ℕ → PairWorld → PairWorld
+microframes losses count w = times (microframe losses) count w
 
 -- ---- what is printed
 
@@ -156,9 +159,8 @@ unfoldable pub tick_lines : PairWorld → List Said
 tick_lines w =
     if_said (is_dry w.out) (says_under 1 ∷ []) ++ if_said (nat_le 1 w.detail) (says_played 1 (played_in w.out) ∷ [])
 
-unfoldable pub ticks_lines : ℕ → PairWorld → List Said
-ticks_lines zero w = []
-ticks_lines (suc count) w = tick_lines w ++ ticks_lines count (tick w)
+abbrev pub ticks_lines : ℕ → PairWorld → List Said
+ticks_lines count w = lines_times tick_lines tick count w
 
 abbrev pub time_lines : PairWorld → List Said
 time_lines w = if_said (nat_le 2 w.detail) (says_time (at_most_u64 (suc w.time)) ∷ [])
@@ -174,6 +176,5 @@ unfoldable pub microframe_lines : Losses → PairWorld → List Said
 microframe_lines losses w =
     time_lines w ++ (packet_lines losses w ++ (ticks_lines (ticks_next w) (at_ticks losses w) ++ level_lines (microframe losses w)))
 
-unfoldable pub microframes_lines : Losses → ℕ → PairWorld → List Said
-microframes_lines losses zero w = []
-microframes_lines losses (suc count) w = microframe_lines losses w ++ microframes_lines losses count (microframe losses w)
+abbrev pub microframes_lines : Losses → ℕ → PairWorld → List Said
+microframes_lines losses count w = lines_times (microframe_lines losses) (microframe losses) count w

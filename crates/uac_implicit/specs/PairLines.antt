@@ -9,7 +9,8 @@ use Rattle.uac_script.specs.Phrase.{append_line, track_line, jack_line, deviate_
 use Rattle.uac_transcript.specs.declared.report.StreamCounts.{StreamCounts}
 use Rattle.uac_transcript.specs.Transcript.{Said, spelling_of, number_or_dash, says_passed, says_domain}
 use Rattle.uac_bench.specs.BenchStreams.{level_of}
-use Rattle.uac_implicit.specs.Following.{PairWorld, Losses, microframes, microframes_lines}
+use Rattle.uac_implicit.specs.declared.marks.Losses.{Losses}
+use Rattle.uac_implicit.specs.Following.{PairWorld, microframes, microframes_lines}
 
 -- ---- the lines that a pair prints
 
