@@ -35,8 +35,17 @@ pub record PairWorld : Type 0 where
 
 unfoldable pub pair_start : ℕ → PairWorld
 pair_start rate = record {
-  rate = rate; deviation = pos 0; steps = []; out = stream_start; waiting = []; heard = []; time = 0; detail = 0; in_lost = 0;
-  in_was_lost = false; strayed = 0;
+  rate = rate;
+  deviation = pos 0;
+  steps = [];
+  out = stream_start;
+  waiting = [];
+  heard = [];
+  time = 0;
+  detail = 0;
+  in_lost = 0;
+  in_was_lost = false;
+  strayed = 0;
 }
 
 -- the most frames in the ring of the stream to the device

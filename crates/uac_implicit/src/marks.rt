@@ -35,9 +35,21 @@ pub(crate) fn losses_of(marks: &[Mark]) -> Losses
     ensures { result ≡ spec.losses_of (map phrase_mark marks.now) }
 {
     Losses {
-        loses_out: marks.iter().any(|mark| is_out(mark.kind)),
-        loses_in: marks.iter().any(|mark| is_in(mark.kind)),
+        loses_out: loses_out(marks),
+        loses_in: loses_in(marks),
     }
+}
+
+fn loses_out(marks: &[Mark]) -> bool
+    ensures { result ≡ list_any (λ mark. spec.marks_out mark.kind) (map phrase_mark marks.now) }
+{
+    marks.iter().any(|mark| is_out(mark.kind))
+}
+
+fn loses_in(marks: &[Mark]) -> bool
+    ensures { result ≡ list_any (λ mark. spec.marks_in mark.kind) (map phrase_mark marks.now) }
+{
+    marks.iter().any(|mark| is_in(mark.kind))
 }
 
 fn is_out(kind: MarkKind) -> bool

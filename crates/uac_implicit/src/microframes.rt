@@ -1,8 +1,9 @@
 // The microframes of a pair.
-ghost use Rattle.std.specs.Prelude.{◌≡◌, ◌≢◌, ◌≤◌, ◌<◌, ◌+◌, ◌++◌, ◌∷◌, [], ℕ, List, suc, true, length};
+ghost use Rattle.std.specs.Prelude.{◌≡◌, ◌≢◌, ◌≤◌, ◌<◌, ◌+◌, ◌++◌, ◌∷◌, [], ℕ, List, suc, true, if◌then◌else◌, length};
 ghost use Rattle.uac_edges.specs.Faults.{HasCause};
 ghost use Rattle.uac_transcript.specs.Printing.{Prints};
-ghost use Rattle.uac_bench.specs.BenchStreams.{level_of};
+ghost use Rattle.uac_bench.specs.BenchStreams.{StreamWorld, level_of, with_zeros};
+ghost use Rattle.uac_bench.specs.BenchKept.{BenchStreamStands};
 ghost use Rattle.uac_implicit.specs.Following.{PairWorld, sent_in, sent_out, at_ticks, tick, ticks, step_next, ticks_next, ended, microframe};
 ghost use Rattle.uac_implicit.specs.Following.{microframes};
 ghost use Rattle.uac_implicit.specs.Following.{in_lines, level_lines, microframe_lines, microframes_lines, out_lines, packet_lines, tick_lines};
@@ -12,6 +13,7 @@ ghost use Rattle.uac_implicit.specs.PairKept.{IsShort, KeepsSettings, PairRunSta
 use crate::marks::Losses;
 use crate::pair::PairRun;
 use crate::printing::{write_fetched, write_sent, write_ticked};
+use uac_bench::BenchStream;
 use uac_edges::{Failed, Sink};
 use uac_ring::RING_FRAMES;
 use uac_transcript::{write_level, write_time};
@@ -185,9 +187,7 @@ impl PairRun {
             → KeepsSettings before w → ticks ≡ ticks_next before → (losses.loses_out ≡ true → level_of w.out + ticks ≤ 2048)
             → PairRunStands self.new (ended losses before w) }
     {
-        if losses.loses_out {
-            self.out.replace(ticks);
-        }
+        fill(&mut self.out, losses.loses_out, ticks);
         self.out.prime();
         self.time = self.time.saturating_add(1);
     }
@@ -202,5 +202,15 @@ impl PairRun {
             return Ok(());
         }
         write_level(sink, 1, self.out.level(), self.out.target())
+    }
+}
+
+/// Puts a zero frame for each tick in place of a lost packet, for which there is room.
+fn fill(out: &mut BenchStream, lost: bool, ticks: u32)
+    ensures { (s : StreamWorld) → BenchStreamStands out.old s → (lost ≡ true → level_of s + ticks ≤ 2048)
+        → BenchStreamStands out.new (if lost then with_zeros ticks s else s) }
+{
+    if lost {
+        out.replace(ticks);
     }
 }

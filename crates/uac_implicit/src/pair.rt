@@ -45,8 +45,15 @@ impl Model for PairRun {
     ghost Value = { PairRunFields };
 
     ghost view = { λ p. record {
-        nominal = p.nominal; step = p.step; clock = p.clock; follower = p.follower; out = p.out; waiting = p.waiting; time = p.time;
-        detail = p.detail; in_lost = p.in_lost;
+      nominal = p.nominal;
+      step = p.step;
+      clock = p.clock;
+      follower = p.follower;
+      out = p.out;
+      waiting = p.waiting;
+      time = p.time;
+      detail = p.detail;
+      in_lost = p.in_lost;
     } };
 
     ghost invariant = { λ p. IsNominal p.nominal × (p.step ≤ 2097152) };

@@ -7,6 +7,7 @@ ghost use Rattle.uac_implicit.specs.Following.{arrival_lines, if_said, over_line
 
 use uac_bench::BenchTick;
 use uac_edges::{Failed, Sink};
+use uac_pcm::Frame;
 use uac_ring::Ring;
 use uac_transcript::{
     PrintedArrival, write_frame, write_in, write_out, write_over, write_played, write_under,
@@ -138,10 +139,19 @@ pub(crate) fn write_ticked<K: Sink>(
         Ok(()) => {}
         Err(failed) => return Err(failed),
     }
+    write_if_played(sink, detail, &ticked.frame)
+}
+
+/// Prints from detail 1 on the frame that was played.
+fn write_if_played<K: Sink>(sink: &mut K, detail: u8, frame: &Frame) -> Result<(), Failed>
+    ensures printed { Prints (K.written sink.old) (K.written sink.new) result
+        (if_said (nat_le 1 detail) (says_played 1 frame.now.items ∷ [])) }
+    ensures cause { HasCause (K.faults sink.old) (K.faults sink.new) result }
+{
     if detail < 1 {
         return Ok(());
     }
-    write_played(sink, 1, &ticked.frame)
+    write_played(sink, 1, frame)
 }
 
 /// Prints that the ring was found empty, where it was.

@@ -40,8 +40,8 @@ fn rate_of(nominal: &Nominal) -> u32
     requires { IsNominal nominal.now }
     ensures { (hertz : ℕ) → nominal_of hertz ≡ Some nominal.now → result ≡ hertz }
 {
-    // The nominal value is the rate over 8,000 in 65,536ths of a frame, rounded down.
-    (u64::from(nominal.f) * 8000).div_ceil(65536) as u32
+    // The nominal value is the rate over 8,000 in 65,536ths of a frame, rounded down; so it goes back rounded up.
+    ((u64::from(nominal.f) * 8000 + 65535) / 65536) as u32
 }
 
 /// Prints the stream to the device in the report.

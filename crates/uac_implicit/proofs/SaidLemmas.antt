@@ -1,0 +1,68 @@
+-- The lines that the code prints are those of the world.
+use Rattle.std.proofs.Common.{◌≡◌, ◌∙◌, refl, ap, sym, subst, ℕ, ◌+◌, ◌/◌, nat_le, not, ◌&&◌, Bool, true, false, ℤ, List, [], ◌∷◌, ◌++◌, length, map, sum, Option, Some, None, Result, Ok, Err, OnOk, codes, decimal}
+use Rattle.std.proofs.lemmas.List.{append-nil}
+use Rattle.uac_units.specs.Hearing.{at_most_u64}
+use Rattle.uac_transcript.specs.declared.packets.PrintedArrival.{PrintedArrival}
+use Rattle.uac_transcript.specs.declared.report.StreamCounts.{StreamCounts}
+use Rattle.uac_transcript.specs.Transcript.{Said, spelling_of, says_in, says_frame, says_under, says_played, says_passed, says_domain}
+use Rattle.uac_bench.specs.BenchStreams.{StreamWorld, level_of, arrival_of, played_in, is_dry}
+use Rattle.uac_implicit.specs.Following.{PairWorld, most_frames, size_next, if_said, arrival_lines, out_lines, in_lines, tick_lines}
+use Rattle.uac_implicit.specs.PairLines.{PairSaid, printed, says_pair_out, says_pair_in, pair_spelling, pair_text, pair_report}
+
+pub always : {T E : Type 0} (r : Result T E) (P : Type 0) → P → OnOk r P
+always (Ok x) P p = p
+always (Err e) P p = tt
+
+pub out_told : (detail size : ℕ) (arrived : PrintedArrival) (lost : Bool) (w : PairWorld) → detail ≡ w.detail → size ≡ size_next w
+    → arrived ≡ arrival_of most_frames lost size w.out → arrival_lines detail size arrived ≡ out_lines lost w
+unfolding out_lines
+out_told detail size arrived lost w d n a =
+    ap (λ (k : ℕ). arrival_lines k size arrived) d ∙ ap (arrival_lines w.detail size) a
+    ∙ ap (λ (k : ℕ). arrival_lines w.detail k (arrival_of most_frames lost k w.out)) n
+
+pub in_told : (detail : ℕ) (lost : Bool) (waiting : List (List ℤ)) (w : PairWorld) → detail ≡ w.detail → waiting ≡ w.waiting
+    → if_said (nat_le 2 detail) (says_in 2 (length waiting) lost ∷ []) ++ if_said (nat_le 1 detail && not lost) (map (says_frame 2) waiting)
+    ≡ in_lines lost w
+unfolding in_lines
+in_told detail lost waiting w d e =
+    ap (λ (k : ℕ). if_said (nat_le 2 k) (says_in 2 (length waiting) lost ∷ []) ++ if_said (nat_le 1 k && not lost) (map (says_frame 2) waiting)) d
+    ∙ ap (λ (xs : List (List ℤ)). if_said (nat_le 2 w.detail) (says_in 2 (length xs) lost ∷ []) ++ if_said (nat_le 1 w.detail && not lost) (map (says_frame 2) xs)) e
+
+pub tick_told : (detail : ℕ) (under : Bool) (frame : List ℤ) (w : PairWorld) → detail ≡ w.detail → under ≡ is_dry w.out → frame ≡ played_in w.out
+    → if_said under (says_under 1 ∷ []) ++ if_said (nat_le 1 detail) (says_played 1 frame ∷ []) ≡ tick_lines w
+unfolding tick_lines
+tick_told detail under frame w d u f =
+    ap (λ (k : ℕ). if_said under (says_under 1 ∷ []) ++ if_said (nat_le 1 k) (says_played 1 frame ∷ [])) d
+    ∙ ap (λ (b : Bool). if_said b (says_under 1 ∷ []) ++ if_said (nat_le 1 w.detail) (says_played 1 frame ∷ [])) u
+    ∙ ap (λ (x : List ℤ). if_said (is_dry w.out) (says_under 1 ∷ []) ++ if_said (nat_le 1 w.detail) (says_played 1 x ∷ [])) f
+
+abbrev first : PairWorld → List ℕ
+first w = spelling_of (says_passed (at_most_u64 w.time))
+
+abbrev second : PairWorld → List ℕ
+second w = spelling_of (says_domain 1 (Some w.rate) (at_most_u64 (sum w.steps / 65536)))
+
+abbrev third : PairWorld → List ℕ
+third w = pair_spelling (says_pair_out (level_of w.out) w.out.target w.out.met)
+
+as_printed : (said : Said) → spelling_of said ≡ pair_spelling (printed said)
+unfolding pair_spelling
+as_printed said = refl
+
+-- the report's lines, one after the other
+pub report_told : (w : PairWorld) (time rate ticks level lost : ℕ) (target : Option ℕ) (met : StreamCounts) → time ≡ at_most_u64 w.time → rate ≡ w.rate
+    → ticks ≡ at_most_u64 (sum w.steps / 65536) → level ≡ level_of w.out → target ≡ w.out.target → met ≡ w.out.met → lost ≡ w.in_lost
+    → spelling_of (says_passed time) ++ (spelling_of (says_domain 1 (Some rate) ticks)
+    ++ (pair_spelling (says_pair_out level target met) ++ pair_spelling (says_pair_in lost))) ≡ pair_text (pair_report w)
+unfolding pair_report
+report_told w time rate ticks level lost target met a b c d e f g =
+    ap (λ (n : ℕ). spelling_of (says_passed n) ++ (spelling_of (says_domain 1 (Some rate) ticks) ++ (pair_spelling (says_pair_out level target met) ++ pair_spelling (says_pair_in lost)))) a
+    ∙ ap (λ (n : ℕ). spelling_of (says_passed (at_most_u64 w.time)) ++ (spelling_of (says_domain 1 (Some n) ticks) ++ (pair_spelling (says_pair_out level target met) ++ pair_spelling (says_pair_in lost)))) b
+    ∙ ap (λ (n : ℕ). first w ++ (spelling_of (says_domain 1 (Some w.rate) n) ++ (pair_spelling (says_pair_out level target met) ++ pair_spelling (says_pair_in lost)))) c
+    ∙ ap (λ (n : ℕ). first w ++ (second w ++ (pair_spelling (says_pair_out n target met) ++ pair_spelling (says_pair_in lost)))) d
+    ∙ ap (λ (o : Option ℕ). first w ++ (second w ++ (pair_spelling (says_pair_out (level_of w.out) o met) ++ pair_spelling (says_pair_in lost)))) e
+    ∙ ap (λ (m : StreamCounts). first w ++ (second w ++ (pair_spelling (says_pair_out (level_of w.out) w.out.target m) ++ pair_spelling (says_pair_in lost)))) f
+    ∙ ap (λ (n : ℕ). first w ++ (second w ++ (third w ++ pair_spelling (says_pair_in n)))) g
+    ∙ ap (λ (text : List ℕ). first w ++ (second w ++ (third w ++ text))) (sym (append-nil (pair_spelling (says_pair_in w.in_lost))))
+    ∙ ap (λ (text : List ℕ). text ++ (second w ++ (third w ++ (pair_spelling (says_pair_in w.in_lost) ++ [])))) (as_printed (says_passed (at_most_u64 w.time)))
+    ∙ ap (λ (text : List ℕ). pair_spelling (printed (says_passed (at_most_u64 w.time))) ++ (text ++ (third w ++ (pair_spelling (says_pair_in w.in_lost) ++ [])))) (as_printed (says_domain 1 (Some w.rate) (at_most_u64 (sum w.steps / 65536))))
