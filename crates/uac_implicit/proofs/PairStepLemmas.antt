@@ -1,16 +1,16 @@
 -- What a line of a pair is answered.
-use Rattle.std.proofs.Common.{◌≡◌, ◌∙◌, refl, ap, sym, subst, ℕ, ◌==◌, Bool, true, false, List, [], ◌∷◌, ◌++◌, map, flat_map, Option, Some, None, Result, Ok, Err, pos}
+use Rattle.std.proofs.Common.{◌≡◌, ◌∙◌, refl, ap, sym, subst, ℕ, ◌==◌, Bool, true, false, List, [], ◌∷◌, ◌++◌, map, flat_map, Option, Some, None, Result, Ok, Err, ℤ, pos}
 use Rattle.std.specs.Io.KnownBytes.{Appends}
 use Rattle.uac_edges.specs.Writing.{AppendsFront, Writes}
 use Rattle.uac_edges.proofs.WritingLemmas.{Appends-twice, AppendsFront-after, AppendsFront-longer}
-use Rattle.uac_script.specs.Phrase.{Phrase}
+use Rattle.uac_script.specs.Phrase.{Phrase, deviate_line}
 use Rattle.uac_transcript.specs.Transcript.{Said, spelling_of}
 use Rattle.uac_transcript.specs.Printing.{text_of}
 use Rattle.uac_implicit.specs.declared.fault.PairFault.{PairFault}
 use Rattle.uac_implicit.specs.declared.fault.PairFault.TheVariants as faults
 use Rattle.uac_implicit.specs.Following.{PairWorld}
 use Rattle.uac_implicit.specs.PairLines.{PairSaid, printed, pair_spelling, pair_text, PairStep, pair_done, pair_refused, pair_unless, pair_step, is_number}
-use Rattle.uac_implicit.specs.PairKept.{PairFields, PairStands, PairReaches, IsPairCut, PairDoes, PairAnswers}
+use Rattle.uac_implicit.specs.PairKept.{PairRunFields, PairRunStands, PairFields, PairStands, PairReaches, IsPairCut, PairDoes, PairAnswers}
 
 -- the rule holds, and the step was made, or a write failed in its midst; or the rule is broken
 pub reached_by : (b : Bool) (rule : ℕ) (s : PairStep) (Holds : PairWorld → Type 0) (written written' : Option (List ℕ)) → b ≡ true
@@ -40,3 +40,12 @@ pub answers_same : (p q : Phrase) (w : PairWorld) (pair : PairFields) (written w
     → p ≡ q → PairAnswers p w pair written written' result → PairAnswers q w pair written written' result
 answers_same p q w pair written written' result same answers =
     subst (λ (said : Phrase). PairAnswers said w pair written written' result) same answers
+
+-- a deviation that was passed on is the line's
+pub deviates_said : (domain : ℕ) (passed ppm : ℤ) (p p' : PairRunFields) (result : Result (Unit {0}) PairFault) → passed ≡ ppm
+    → ((w : PairWorld) (written : Option (List ℕ)) → PairRunStands p w
+    → PairDoes (pair_step (deviate_line (pos domain) passed) w) (PairRunStands p') written written result)
+    → (w : PairWorld) (written : Option (List ℕ)) → PairRunStands p w
+    → PairDoes (pair_step (deviate_line (pos domain) ppm) w) (PairRunStands p') written written result
+deviates_said domain passed ppm p p' result same does w written s =
+    subst (λ (z : ℤ). PairDoes (pair_step (deviate_line (pos domain) z) w) (PairRunStands p') written written result) same (does w written s)

@@ -36,33 +36,18 @@ tick_told detail under frame w d u f =
     ∙ ap (λ (b : Bool). if_said b (says_under 1 ∷ []) ++ if_said (nat_le 1 w.detail) (says_played 1 frame ∷ [])) u
     ∙ ap (λ (x : List ℤ). if_said (is_dry w.out) (says_under 1 ∷ []) ++ if_said (nat_le 1 w.detail) (says_played 1 x ∷ [])) f
 
-abbrev first : PairWorld → List ℕ
-first w = spelling_of (says_passed (at_most_u64 w.time))
+abbrev pub passed_text : PairWorld → List ℕ
+passed_text w = spelling_of (says_passed (at_most_u64 w.time))
 
-abbrev second : PairWorld → List ℕ
-second w = spelling_of (says_domain 1 (Some w.rate) (at_most_u64 (sum w.steps / 65536)))
+abbrev pub domain_text : PairWorld → List ℕ
+domain_text w = spelling_of (says_domain 1 (Some w.rate) (at_most_u64 (sum w.steps / 65536)))
 
-abbrev third : PairWorld → List ℕ
-third w = pair_spelling (says_pair_out (level_of w.out) w.out.target w.out.met)
+abbrev pub out_text : PairWorld → List ℕ
+out_text w = pair_spelling (says_pair_out (level_of w.out) w.out.target w.out.met)
 
-as_printed : (said : Said) → spelling_of said ≡ pair_spelling (printed said)
-unfolding pair_spelling
-as_printed said = refl
+abbrev pub in_text : PairWorld → List ℕ
+in_text w = pair_spelling (says_pair_in w.in_lost)
 
--- the report's lines, one after the other
-pub report_told : (w : PairWorld) (time rate ticks level lost : ℕ) (target : Option ℕ) (met : StreamCounts) → time ≡ at_most_u64 w.time → rate ≡ w.rate
-    → ticks ≡ at_most_u64 (sum w.steps / 65536) → level ≡ level_of w.out → target ≡ w.out.target → met ≡ w.out.met → lost ≡ w.in_lost
-    → spelling_of (says_passed time) ++ (spelling_of (says_domain 1 (Some rate) ticks)
-    ++ (pair_spelling (says_pair_out level target met) ++ pair_spelling (says_pair_in lost))) ≡ pair_text (pair_report w)
-unfolding pair_report
-report_told w time rate ticks level lost target met a b c d e f g =
-    ap (λ (n : ℕ). spelling_of (says_passed n) ++ (spelling_of (says_domain 1 (Some rate) ticks) ++ (pair_spelling (says_pair_out level target met) ++ pair_spelling (says_pair_in lost)))) a
-    ∙ ap (λ (n : ℕ). spelling_of (says_passed (at_most_u64 w.time)) ++ (spelling_of (says_domain 1 (Some n) ticks) ++ (pair_spelling (says_pair_out level target met) ++ pair_spelling (says_pair_in lost)))) b
-    ∙ ap (λ (n : ℕ). first w ++ (spelling_of (says_domain 1 (Some w.rate) n) ++ (pair_spelling (says_pair_out level target met) ++ pair_spelling (says_pair_in lost)))) c
-    ∙ ap (λ (n : ℕ). first w ++ (second w ++ (pair_spelling (says_pair_out n target met) ++ pair_spelling (says_pair_in lost)))) d
-    ∙ ap (λ (o : Option ℕ). first w ++ (second w ++ (pair_spelling (says_pair_out (level_of w.out) o met) ++ pair_spelling (says_pair_in lost)))) e
-    ∙ ap (λ (m : StreamCounts). first w ++ (second w ++ (pair_spelling (says_pair_out (level_of w.out) w.out.target m) ++ pair_spelling (says_pair_in lost)))) f
-    ∙ ap (λ (n : ℕ). first w ++ (second w ++ (third w ++ pair_spelling (says_pair_in n)))) g
-    ∙ ap (λ (text : List ℕ). first w ++ (second w ++ (third w ++ text))) (sym (append-nil (pair_spelling (says_pair_in w.in_lost))))
-    ∙ ap (λ (text : List ℕ). text ++ (second w ++ (third w ++ (pair_spelling (says_pair_in w.in_lost) ++ [])))) (as_printed (says_passed (at_most_u64 w.time)))
-    ∙ ap (λ (text : List ℕ). pair_spelling (printed (says_passed (at_most_u64 w.time))) ++ (text ++ (third w ++ (pair_spelling (says_pair_in w.in_lost) ++ [])))) (as_printed (says_domain 1 (Some w.rate) (at_most_u64 (sum w.steps / 65536))))
+pub report_is : (w : PairWorld) → passed_text w ++ (domain_text w ++ (out_text w ++ in_text w)) ≡ pair_text (pair_report w)
+unfolding pair_report pair_spelling
+report_is w = ap (λ (text : List ℕ). passed_text w ++ (domain_text w ++ (out_text w ++ text))) (sym (append-nil (in_text w)))
