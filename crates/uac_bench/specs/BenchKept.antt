@@ -3,7 +3,7 @@ use Rattle.std.specs.Prelude.{◌≡◌, ℕ, ◌/◌, ◌%◌, ◌^◌, ℤ, Li
 use Rattle.uac_clock.specs.Ticks.{IsPhaseAfter}
 use Rattle.uac_ring.specs.Rings.{Holds}
 use Rattle.uac_units.specs.Hearing.{at_most_u64}
-use Rattle.uac_transcript.specs.declared.report.StreamCounts.{StreamCounts}
+use Rattle.uac_ring.specs.declared.counts.StreamCounts.{StreamCounts}
 use Rattle.uac_bench.specs.BenchStreams.{StreamWorld}
 
 -- what a bench's stream is seen as: of the frames formed it keeps the number, as far as 32 bits hold it

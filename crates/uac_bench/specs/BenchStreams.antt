@@ -3,9 +3,9 @@ use Rattle.std.specs.Prelude.{ℕ, zero, suc, ◌+◌, ◌-◌, Bool, true, fals
 use Rattle.std.specs.List.{range_with_len}
 use Rattle.uac_pcm.specs.Subslots.{wrap}
 use Rattle.uac_units.specs.Hearing.{at_most_u64}
-use Rattle.uac_transcript.specs.declared.packets.PrintedArrival.{PrintedArrival}
-use Rattle.uac_transcript.specs.declared.packets.PrintedArrival.TheVariants as arrivals
-use Rattle.uac_transcript.specs.declared.report.StreamCounts.{StreamCounts}
+use Rattle.uac_ring.specs.declared.arrival.Arrival.{Arrival}
+use Rattle.uac_ring.specs.declared.arrival.Arrival.TheVariants as arrivals
+use Rattle.uac_ring.specs.declared.counts.StreamCounts.{StreamCounts}
 
 pub record StreamWorld : Type 0 where
   -- all frames since the stream last began to prime, how many of them were played, and the level at which it was primed, none while it
@@ -52,17 +52,17 @@ abbrev pub numbered : ℕ → ℕ → List (List ℤ)
 numbered formed count = map numbered_frame (range_with_len (formed + 1) count)
 
 -- how a packet arrives that is lost, or for which there is room
-abbrev pub arrives_by : Bool → Bool → PrintedArrival
+abbrev pub arrives_by : Bool → Bool → Arrival
 arrives_by true fits = arrivals.Lost
-arrives_by false true = arrivals.Ok
+arrives_by false true = arrivals.Taken
 arrives_by false false = arrivals.Over
 
 -- a packet that would bring the level above the most is over
-abbrev pub arrival_of : ℕ → Bool → ℕ → StreamWorld → PrintedArrival
+abbrev pub arrival_of : ℕ → Bool → ℕ → StreamWorld → Arrival
 arrival_of most lost count s = arrives_by lost (nat_le (level_of s + count) most)
 
-abbrev pub received_by : PrintedArrival → List (List ℤ) → StreamWorld → StreamWorld
-received_by arrivals.Ok frames s = record s { arrived = s.arrived ++ frames }
+abbrev pub received_by : Arrival → List (List ℤ) → StreamWorld → StreamWorld
+received_by arrivals.Taken frames s = record s { arrived = s.arrived ++ frames }
 received_by arrivals.Lost frames s = record s { met = one_lost s.met }
 received_by arrivals.Over frames s = record s { met = one_over s.met }
 

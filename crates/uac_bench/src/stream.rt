@@ -11,8 +11,7 @@ use std::alloc::Global;
 use std::marker::Model;
 use uac_descriptor::NoMemory;
 use uac_pcm::Frame;
-use uac_ring::Ring;
-use uac_transcript::{PrintedArrival, StreamCounts};
+use uac_ring::{Arrival, Ring, StreamCounts};
 
 /// A mono stream to the device of a bench: its ring, the level at which it was primed, how many frames were formed, and what it met.
 #[derive(Drop)]
@@ -65,7 +64,7 @@ impl BenchStream {
     /// A packet of so many frames is formed, and lost or delivered. One that would bring the level above `most` is over; then the ring
     /// takes none of its frames.
     #[tactic(auto, unfolding(crate::specs::BenchStreams::after_packet))]
-    pub fn receive(&mut self, frames: u32, lost: bool, most: u32) -> PrintedArrival
+    pub fn receive(&mut self, frames: u32, lost: bool, most: u32) -> Arrival
         requires { most ≤ ring_frames }
         ensures stands { (s : StreamWorld) → BenchStreamStands self.old s
             → BenchStreamStands self.new (after_packet most lost frames s) }
@@ -75,14 +74,14 @@ impl BenchStream {
         self.formed = formed.wrapping_add(frames);
         if lost {
             self.met.lost = self.met.lost.saturating_add(1);
-            return PrintedArrival::Lost;
+            return Arrival::Lost;
         }
         if u64::from(self.ring.level()) + u64::from(frames) > u64::from(most) {
             self.met.over = self.met.over.saturating_add(1);
-            return PrintedArrival::Over;
+            return Arrival::Over;
         }
         put_numbered(&mut self.ring, formed, frames);
-        PrintedArrival::Ok
+        Arrival::Taken
     }
 
     /// A tick. A primed stream plays its next frame, and a priming one silence. Where a primed stream's ring is empty, silence is played,

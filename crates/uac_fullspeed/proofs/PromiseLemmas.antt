@@ -8,9 +8,9 @@ use Rattle.uac_rate.specs.Levels.{Within}
 use Rattle.uac_rate.specs.Steadiness.{SteadyHistory, is_slight, run, has_four_lost, latest_run, one_more, with_report_given, with_deviation_given, is_steady, loses_few_reports, eight_streams}
 use Rattle.uac_units.specs.Hearing.{at_most_u64}
 use Rattle.uac_script.specs.Phrase.{PhraseMark, Phrase, nothing_line, bytes_line, go_line, control_line, get_line, set_line, show_line, break_line, append_line, track_line, jack_line, deviate_line, microframes_line, detail_line, report_line}
-use Rattle.uac_transcript.specs.declared.packets.PrintedArrival.{PrintedArrival}
-use Rattle.uac_transcript.specs.declared.packets.PrintedArrival.TheVariants as arrivals
-use Rattle.uac_transcript.specs.declared.report.StreamCounts.{StreamCounts}
+use Rattle.uac_ring.specs.declared.arrival.Arrival.{Arrival}
+use Rattle.uac_ring.specs.declared.arrival.Arrival.TheVariants as arrivals
+use Rattle.uac_ring.specs.declared.counts.StreamCounts.{StreamCounts}
 use Rattle.uac_transcript.specs.Transcript.{Said, says_time, says_out, says_over, says_under, says_played, says_level, says_passed, says_steady, says_domain}
 use Rattle.uac_bench.specs.BenchStreams.{StreamWorld, stream_start, level_of, arrives_by, arrival_of, numbered, ticked_by, after_tick, after_ticks, with_zeros, is_dry, is_dry_by, played_in}
 use Rattle.uac_bench.proofs.FramesLemmas.{length-numbered}
@@ -285,7 +285,7 @@ all_if P false line p = tt
 kept_time : (whole : Bool) (n : ℕ) → IsKeptLine whole (says_as_run (says_time n))
 kept_time whole n = record { no_under = λ i e. cc; no_over = λ i e. cc; level = λ i l t e. absurd (cc); stream = λ l t m e. absurd (cc) }
 
-kept_out : (whole : Bool) (i n : ℕ) (a : PrintedArrival) → IsKeptLine whole (says_as_run (says_out i n a))
+kept_out : (whole : Bool) (i n : ℕ) (a : Arrival) → IsKeptLine whole (says_as_run (says_out i n a))
 kept_out whole i n a = record { no_under = λ j e. cc; no_over = λ j e. cc; level = λ j l t e. absurd (cc); stream = λ l t m e. absurd (cc) }
 
 kept_played : (whole : Bool) (i : ℕ) (frame : List ℤ) → IsKeptLine whole (says_as_run (says_played i frame))
@@ -345,8 +345,8 @@ ticks_kept whole detail (suc count) s quiet =
           (all_if (IsKeptLine whole) (nat_le 1 detail) (says_as_run (says_played 1 (played_in s))) (kept_played whole 1 (played_in s)))
           (rest (record s { played = suc s.played }) (let fewer : suc s.played + count ≤ length s.arrived = omega arith in inr fewer))
 
-over_kept : (whole : Bool) (a : PrintedArrival) → a ≢ arrivals.Over → AllByRecursion (IsKeptLine whole) (over_lines a)
-over_kept whole arrivals.Ok never = tt
+over_kept : (whole : Bool) (a : Arrival) → a ≢ arrivals.Over → AllByRecursion (IsKeptLine whole) (over_lines a)
+over_kept whole arrivals.Taken never = tt
 over_kept whole arrivals.Lost never = tt
 over_kept whole arrivals.Over never = absurd (never refl)
 

@@ -2,8 +2,8 @@
 use Rattle.std.proofs.Common.{arith, ◌≡◌, ◌∙◌, refl, sym, ap, subst, ℕ, zero, suc, ◌+◌, ◌-◌, ◌<◌, ◌≤◌, ◌⊎◌, inl, inr, Bool, true, false, nat_le, ℤ, pos, List, [], ◌∷◌, ◌++◌, length, drop, replicate, Option, Some, None, length-append, length-drop}
 use Rattle.std.proofs.lemmas.Bool.{leb-true, leb-false}
 use Rattle.std.proofs.lemmas.List.{length-replicate}
-use Rattle.uac_transcript.specs.declared.packets.PrintedArrival.{PrintedArrival}
-use Rattle.uac_transcript.specs.declared.packets.PrintedArrival.TheVariants as arrivals
+use Rattle.uac_ring.specs.declared.arrival.Arrival.{Arrival}
+use Rattle.uac_ring.specs.declared.arrival.Arrival.TheVariants as arrivals
 use Rattle.uac_bench.specs.BenchStreams.{StreamWorld, level_of, arrives_by, received_by, arrival_of, numbered, after_packet, ticked_by, after_tick, after_ticks, silent_frame, with_zeros, target_by, after_priming}
 use Rattle.uac_bench.proofs.FramesLemmas.{length-numbered}
 use Rattle.uac_fullspeed.specs.FullSpeedWorld.{at_ticks, ticked, replaced_by, settled}

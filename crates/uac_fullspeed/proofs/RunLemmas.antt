@@ -12,7 +12,7 @@ use Rattle.uac_rate.specs.PacketSizes.{frames_in_packet}
 use Rattle.uac_rate.specs.Levels.{HasBand}
 use Rattle.uac_rate.specs.Steadiness.{SteadyStands, nothing_given}
 use Rattle.uac_units.specs.Hearing.{at_most_u64}
-use Rattle.uac_transcript.specs.declared.report.StreamCounts.{StreamCounts}
+use Rattle.uac_ring.specs.declared.counts.StreamCounts.{StreamCounts}
 use Rattle.uac_bench.specs.BenchStreams.{StreamWorld, stream_start, level_of}
 use Rattle.uac_bench.specs.BenchKept.{BenchClockFields, BenchClockStands, BenchStreamFields, BenchStreamStands}
 use Rattle.uac_fullspeed.specs.declared.values.FsNominal.{FsNominal}

@@ -6,9 +6,9 @@ use Rattle.std.specs.Int.{bytes_high_first}
 use Rattle.hex.specs.Hex.{encode_lower}
 use Rattle.uac_edges.specs.Writing.{Writes}
 use Rattle.uac_units.specs.Hearing.{at_most_u64}
-use Rattle.uac_transcript.specs.declared.packets.PrintedArrival.{PrintedArrival}
-use Rattle.uac_transcript.specs.declared.packets.PrintedArrival.TheVariants as arrivals
-use Rattle.uac_transcript.specs.declared.report.StreamCounts.{StreamCounts}
+use Rattle.uac_ring.specs.declared.arrival.Arrival.{Arrival}
+use Rattle.uac_ring.specs.declared.arrival.Arrival.TheVariants as arrivals
+use Rattle.uac_ring.specs.declared.counts.StreamCounts.{StreamCounts}
 use Rattle.uac_transcript.specs.Transcript.{Said, spelling_of, says_time, says_out, says_over, says_under, says_played, says_level}
 use Rattle.uac_transcript.specs.Transcript.{says_passed, says_steady, says_domain, lost_or_ok, number_or_dash}
 use Rattle.uac_bench.specs.BenchStreams.{StreamWorld, level_of, arrival_of, after_tick, is_dry, played_in}
@@ -51,12 +51,12 @@ abbrev pub number_lines : FullSpeedWorld → List FsLine
 number_lines w = if_at (nat_le 2 w.detail) (says_as_run (says_time (at_most_u64 (length w.steps))))
 
 -- a packet that is over is said at any detail
-abbrev pub over_lines : PrintedArrival → List FsLine
-over_lines arrivals.Ok = []
+abbrev pub over_lines : Arrival → List FsLine
+over_lines arrivals.Taken = []
 over_lines arrivals.Lost = []
 over_lines arrivals.Over = says_as_run (says_over 1) ∷ []
 
-abbrev pub packet_lines : ℕ → ℕ → PrintedArrival → List FsLine
+abbrev pub packet_lines : ℕ → ℕ → Arrival → List FsLine
 packet_lines detail frames arrival = if_at (nat_le 2 detail) (says_as_run (says_out 1 frames arrival)) ++ over_lines arrival
 
 -- a tick that finds the ring empty is said at any detail, and from detail 1 on what is played

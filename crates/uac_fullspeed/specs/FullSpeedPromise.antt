@@ -4,8 +4,8 @@ use Rattle.std.specs.List.{AllByRecursion}
 use Rattle.uac_rate.specs.Levels.{Within}
 use Rattle.uac_script.specs.Phrase.{Phrase, nothing_line, bytes_line, go_line, control_line, get_line, set_line, show_line, break_line}
 use Rattle.uac_script.specs.Phrase.{append_line, track_line, jack_line, deviate_line, microframes_line, detail_line, report_line}
-use Rattle.uac_transcript.specs.declared.packets.PrintedArrival.TheVariants as arrivals
-use Rattle.uac_transcript.specs.declared.report.StreamCounts.{StreamCounts}
+use Rattle.uac_ring.specs.declared.arrival.Arrival.TheVariants as arrivals
+use Rattle.uac_ring.specs.declared.counts.StreamCounts.{StreamCounts}
 use Rattle.uac_transcript.specs.Transcript.{says_under, says_over, says_level}
 use Rattle.uac_bench.specs.BenchStreams.{StreamWorld, level_of, arrival_of, numbered, after_ticks, with_zeros}
 use Rattle.uac_fullspeed.specs.FullSpeedNominal.{is_fs_listed}
@@ -37,7 +37,7 @@ IsFsSafe s = (target : ℕ) → s.target ≡ Some target → (24 ≤ level_of s)
 -- place of a lost packet, and at the end
 abbrev pub IsMoment : Bool → ℕ → ℕ → StreamWorld → StreamWorld → Type 0
 IsMoment packet_lost size ticks s v =
-    ((came : ℕ) × (arrival_of 1024 packet_lost size s ≡ arrivals.Ok) × (came ≤ size)
+    ((came : ℕ) × (arrival_of 1024 packet_lost size s ≡ arrivals.Taken) × (came ≤ size)
     × (v ≡ record s { arrived = s.arrived ++ numbered s.formed came }))
     ⊎ (((passed : ℕ) × (passed ≤ ticks) × (v ≡ after_ticks passed (at_ticks packet_lost size s)))
     ⊎ (((zeros : ℕ) × (packet_lost ≡ true) × (zeros ≤ ticks) × (v ≡ with_zeros zeros (ticked packet_lost size ticks s)))

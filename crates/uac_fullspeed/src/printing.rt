@@ -8,9 +8,10 @@ ghost use Rattle.uac_fullspeed.specs.FullSpeedLines.{shown_lines};
 
 use uac_edges::{Failed, Sink, TextLine, give_all};
 use uac_pcm::Frame;
+use uac_ring::{Arrival, StreamCounts};
 use uac_transcript::{
-    PrintedArrival, StreamCounts, write_domain, write_level, write_out, write_over, write_passed,
-    write_played, write_steady, write_time, write_under,
+    write_domain, write_level, write_out, write_over, write_passed, write_played, write_steady,
+    write_time, write_under,
 };
 
 /// Prints the number of a bus frame, from detail 2 on.
@@ -32,16 +33,16 @@ pub(crate) fn write_packet<K: Sink>(
     sink: &mut K,
     detail: u8,
     frames: u32,
-    arrival: PrintedArrival,
+    arrival: Arrival,
 ) -> Result<(), Failed>
     ensures printed { FsPrints (K.written sink.old) (K.written sink.new) result (packet_lines detail frames arrival) }
     ensures cause { HasCause (K.faults sink.old) (K.faults sink.new) result }
 {
     write_arrival(sink, detail, frames, arrival)?;
     match arrival {
-        PrintedArrival::Ok => Ok(()),
-        PrintedArrival::Lost => Ok(()),
-        PrintedArrival::Over => write_over(sink, 1),
+        Arrival::Taken => Ok(()),
+        Arrival::Lost => Ok(()),
+        Arrival::Over => write_over(sink, 1),
     }
 }
 
@@ -51,7 +52,7 @@ fn write_arrival<K: Sink>(
     sink: &mut K,
     detail: u8,
     frames: u32,
-    arrival: PrintedArrival,
+    arrival: Arrival,
 ) -> Result<(), Failed>
     ensures printed { FsPrints (K.written sink.old) (K.written sink.new) result
         (if_at (nat_le 2 detail) (says_as_run (says_out 1 frames arrival))) }
