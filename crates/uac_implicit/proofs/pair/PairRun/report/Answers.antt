@@ -47,7 +47,7 @@ returns-in-Err-write_pair_out-clause-written g c = λ w s.
     (subst (λ (n : ℕ). Appends mid next (spelling_of (says_domain 1 (Some n) c.ticks.result))) rate c.in-Ok-write_domain.ensures.written) in
     let third =
     subst (λ (m : StreamCounts). AppendsFront next new (pair_spelling (says_pair_out (level_of w.out) w.out.target m))) (c.met.ensures w.out t.in_it.out)
-    (subst (λ (o : Option ℕ). AppendsFront next new (pair_spelling (says_pair_out (level_of w.out) o c.met.result))) (c.target.ensures w.out t.in_it.out)
+    (subst (λ (o : Option ℕ). AppendsFront next new (pair_spelling (says_pair_out (level_of w.out) o c.met.result))) (c.target.ensures.target w.out t.in_it.out)
     (subst (λ (n : ℕ). AppendsFront next new (pair_spelling (says_pair_out n c.target.result c.met.result))) (c.level.ensures.level w.out t.in_it.out) c.in-Err-write_pair_out.ensures.written)) in
     subst (AppendsFront old new) (report_is w)
     (AppendsFront-after old mid new (passed_text w) (domain_text w ++ (out_text w ++ in_text w)) first
@@ -69,7 +69,7 @@ returns-clause-written g c = λ w s.
     (subst (λ (n : ℕ). Appends mid next (spelling_of (says_domain 1 (Some n) c.ticks.result))) rate c.in-Ok-write_domain.ensures.written) in
     let third =
     subst (λ (m : StreamCounts). Appends next last (pair_spelling (says_pair_out (level_of w.out) w.out.target m))) (c.met.ensures w.out t.in_it.out)
-    (subst (λ (o : Option ℕ). Appends next last (pair_spelling (says_pair_out (level_of w.out) o c.met.result))) (c.target.ensures w.out t.in_it.out)
+    (subst (λ (o : Option ℕ). Appends next last (pair_spelling (says_pair_out (level_of w.out) o c.met.result))) (c.target.ensures.target w.out t.in_it.out)
     (subst (λ (n : ℕ). Appends next last (pair_spelling (says_pair_out n c.target.result c.met.result))) (c.level.ensures.level w.out t.in_it.out) c.in-Ok-write_pair_out.ensures.written)) in
     let fourth = subst (λ (n : ℕ). Writes last new r (pair_spelling (says_pair_in n))) t.in_it.in_lost c.write_pair_in.ensures.written in
     subst (Writes old new r) (report_is w)
