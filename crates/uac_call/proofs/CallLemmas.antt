@@ -1,5 +1,5 @@
 -- From what was done to what a command, and the words of a call, come to.
-use Rattle.std.proofs.Common.{◌≡◌, ◌≢◌, ℕ, inl, inr, true, false, List, Option, None, Some, Err, refl, sym, ap, subst, ◌∙◌}
+use Rattle.std.proofs.Common.{◌≡◌, ◌≢◌, ℕ, inl, inr, true, false, List, Option, None, Some, Err, codes, refl, sym, ap, subst, ◌∙◌}
 use Rattle.std.specs.Io.KnownBytes.{IsAtEnd}
 use Rattle.uac_edges.specs.Faults.{Rose}
 use Rattle.uac_gen.specs.GeneratedScript.{script_of}
@@ -10,51 +10,56 @@ use Rattle.uac_words.specs.declared.commands.Invocation.{Invocation}
 use Rattle.uac_words.specs.declared.commands.WordsFault.{WordsFault}
 use Rattle.uac_words.specs.declared.commands.WordsFault.TheVariants as faults
 use Rattle.uac_words.specs.ByClap.{IsAnswer}
-use Rattle.uac_scripts.specs.declared.jobs.SourceJob.TheVariants.{Run}
+use Rattle.uac_ends.specs.declared.status.Status.{Status}
+use Rattle.uac_ends.specs.declared.status.Status.TheVariants as statuses
+use Rattle.uac_ends.specs.Closing.{Closes, IsClosed, IsFaultless, IsReadToEnd}
+use Rattle.uac_ends.specs.Outcome.{Outcome, no_memory}
+use Rattle.uac_ends.specs.Outside.{Outside, outside}
+use Rattle.uac_ends.proofs.ClosingLemmas.{closes_faultless, told_status}
+use Rattle.uac_describe.specs.declared.description.Description.{Description}
 use Rattle.uac_describe.specs.declared.description.Description.TheVariants.{Check, Elements, Show}
-use Rattle.uac_describe.specs.declared.status.Status.{Status}
-use Rattle.uac_describe.specs.declared.status.Status.TheVariants as statuses
-use Rattle.uac_describe.specs.Outcome.{Outcome, no_memory, outcome_of}
-use Rattle.uac_scripts.specs.ScriptRun.{usage, IsRun}
-use Rattle.uac_describe.specs.Closing.{Closes, IsFaultless}
 use Rattle.uac_describe.specs.Answered.{IsDescribed}
-use Rattle.uac_call.specs.Call.{AreAnswered, IsCall, ComesOfCommand, IsGenerated, PrintsAlone, ask_to_read, reads_all}
 use Rattle.uac_describe.specs.SettleLines.{settle_outcome}
-use Rattle.uac_describe.proofs.AnsweredLemmas.{closes_faultless, told_status}
-use Rattle.uac_call.proofs.ScriptRunLemmas.{described_run, usage_run}
+use Rattle.uac_scripts.specs.BusRun.{IsBusRun}
+use Rattle.uac_scripts.specs.Surroundings.{Surroundings, surroundings}
+use Rattle.uac_call.specs.Call.{AreAnswered, Describes, IsCall, ComesOfCommand, IsGenerated, PrintsAlone, ask_to_read, reads_all, usage}
 
 -- a text was printed, and nothing was taken or heard
 pub printed : (outcome : Outcome) (shown : List Reading) (left : Option (List ℕ)) (reads : ℕ) (w w' : Option (List ℕ)) (f f' : ℕ) (status : Status)
-    → Closes outcome w w' f f' status → PrintsAlone outcome shown shown left left reads reads w w' f f' status
-printed outcome shown left reads w w' f f' status closed = record { apart = record { heard = refl; taken = refl; read = refl }; closed = closed }
+    → Closes outcome w w' f f' status → PrintsAlone outcome (surroundings (outside left reads w f) shown) (surroundings (outside left reads w' f') shown) status
+printed outcome shown left reads w w' f f' status closed = record { closed = closed; untouched = record { left = refl; reads = refl }; unheard = refl }
 
 -- ---- commands
 
-module _ (shown : List Reading) (a b : Option (List ℕ)) (r r' : ℕ) (w w' : Option (List ℕ)) (f f' : ℕ) (status : Status) where
-  pub done_check : (command : Command) → command ≡ commands.Check → IsDescribed Check a b r r' w w' f f' status → ComesOfCommand command shown shown a b r r' w w' f f' status
-  done_check command is answered =
-      subst (λ (c : Command). ComesOfCommand c shown shown a b r r' w w' f f' status) (sym is) (described_run shown a b r r' w w' f f' status Check answered)
+module _ (shown : List Reading) (before after : Outside) (status : Status) where
+  describes : (description : Description) → IsDescribed description before after status → Describes description (surroundings before shown) (surroundings after shown) status
+  describes description described = record { described = described; unheard = refl }
 
-  pub done_show : (command : Command) → command ≡ commands.Show → IsDescribed Show a b r r' w w' f f' status → ComesOfCommand command shown shown a b r r' w w' f f' status
-  done_show command is answered =
-      subst (λ (c : Command). ComesOfCommand c shown shown a b r r' w w' f f' status) (sym is) (described_run shown a b r r' w w' f f' status Show answered)
+  pub done_check : (command : Command) → command ≡ commands.Check → IsDescribed Check before after status → ComesOfCommand command (surroundings before shown) (surroundings after shown) status
+  done_check command is described =
+      subst (λ (c : Command). ComesOfCommand c (surroundings before shown) (surroundings after shown) status) (sym is) (describes Check described)
 
-  pub done_elements : (command : Command) → command ≡ commands.Elements → IsDescribed Elements a b r r' w w' f f' status → ComesOfCommand command shown shown a b r r' w w' f f' status
-  done_elements command is answered =
-      subst (λ (c : Command). ComesOfCommand c shown shown a b r r' w w' f f' status) (sym is) (described_run shown a b r r' w w' f f' status Elements answered)
+  pub done_show : (command : Command) → command ≡ commands.Show → IsDescribed Show before after status → ComesOfCommand command (surroundings before shown) (surroundings after shown) status
+  done_show command is described =
+      subst (λ (c : Command). ComesOfCommand c (surroundings before shown) (surroundings after shown) status) (sym is) (describes Show described)
 
-module _ (shown shown' : List Reading) (a b : Option (List ℕ)) (r r' : ℕ) (w w' : Option (List ℕ)) (f f' : ℕ) (status : Status) where
-  pub done_run : (command : Command) → command ≡ commands.Run → IsRun (Some Run) shown shown' a b r r' w w' f f' status → ComesOfCommand command shown shown' a b r r' w w' f f' status
-  done_run command is run = subst (λ (c : Command). ComesOfCommand c shown shown' a b r r' w w' f f' status) (sym is) run
+  pub done_elements : (command : Command) → command ≡ commands.Elements → IsDescribed Elements before after status → ComesOfCommand command (surroundings before shown) (surroundings after shown) status
+  done_elements command is described =
+      subst (λ (c : Command). ComesOfCommand c (surroundings before shown) (surroundings after shown) status) (sym is) (describes Elements described)
 
-  pub done_gen : (command : Command) (number : ℕ) → command ≡ commands.Gen number → IsGenerated number shown shown' a b r r' w w' f f' status
-      → ComesOfCommand command shown shown' a b r r' w w' f f' status
-  done_gen command number is generated = subst (λ (c : Command). ComesOfCommand c shown shown' a b r r' w w' f f' status) (sym is) generated
+module _ (before after : Surroundings) (status : Status) where
+  pub done_run : (command : Command) → command ≡ commands.Run → IsBusRun before after status → ComesOfCommand command before after status
+  done_run command is run = subst (λ (c : Command). ComesOfCommand c before after status) (sym is) run
+
+  pub done_gen : (command : Command) (number : ℕ) → command ≡ commands.Gen number → IsGenerated number before after status → ComesOfCommand command before after status
+  done_gen command number is generated = subst (λ (c : Command). ComesOfCommand c before after status) (sym is) generated
 
 pub done_settle : (shown : List Reading) (a : Option (List ℕ)) (r : ℕ) (w w' : Option (List ℕ)) (f f' : ℕ) (status : Status) (command : Command)
-    → command ≡ commands.Settle → Closes settle_outcome w w' f f' status → ComesOfCommand command shown shown a a r r w w' f f' status
+    → command ≡ commands.Settle → Closes settle_outcome w w' f f' status
+    → ComesOfCommand command (surroundings (outside a r w f) shown) (surroundings (outside a r w' f') shown) status
 done_settle shown a r w w' f f' status command is closed =
-    subst (λ (c : Command). ComesOfCommand c shown shown a a r r w w' f f' status) (sym is) (printed settle_outcome shown a r w w' f f' status closed)
+    subst (λ (c : Command). ComesOfCommand c (surroundings (outside a r w f) shown) (surroundings (outside a r w' f') shown) status) (sym is)
+    (printed settle_outcome shown a r w w' f f' status closed)
 
 -- a command that takes nothing of the source isn't one that reads it all
 pub gen_unread : (command : Command) (number : ℕ) → command ≡ commands.Gen number → reads_all command ≡ true → ⊥
@@ -75,42 +80,48 @@ settled_unread status else_ok is = let ok : status ≡ statuses.Ok = else_ok (re
 
 -- the script of a number was run, over a source that has just its bytes and never fails
 pub generated_run : (number : ℕ) (shown shown' : List Reading) (left : Option (List ℕ)) (reads : ℕ) (script unread : List ℕ) (w w' : Option (List ℕ)) (f f' : ℕ) (status : Status)
-    → script ≡ script_of number → IsRun (Some Run) shown shown' (Some script) (Some unread) 0 0 w w' f f' status
-    → IsGenerated number shown shown' left left reads reads w w' f f' status
+    → script ≡ script_of number → IsBusRun (surroundings (outside (Some script) 0 w f) shown) (surroundings (outside (Some unread) 0 w' f') shown') status
+    → IsGenerated number (surroundings (outside left reads w f) shown) (surroundings (outside left reads w' f') shown') status
 generated_run number shown shown' left reads script unread w w' f f' status is run = record {
   unread = Some unread;
-  run = subst (λ (bytes : List ℕ). IsRun (Some Run) shown shown' (Some bytes) (Some unread) 0 0 w w' f f' status) is run;
-  untaken = refl;
-  untouched = refl;
+  run = subst (λ (bytes : List ℕ). IsBusRun (surroundings (outside (Some bytes) 0 w f) shown) (surroundings (outside (Some unread) 0 w' f') shown') status) is run;
+  untouched = record { left = refl; reads = refl };
 }
 
 -- ---- words
 
 -- the words ask for a command, which was done
-pub done_call : (asked : Option Invocation) (words : Invocation) (shown shown' : List Reading) (a b : Option (List ℕ)) (r r' : ℕ) (w w' : Option (List ℕ)) (f f' : ℕ) (status : Status)
-    → asked ≡ Some words → ComesOfCommand words.command shown shown' a b r r' w w' f f' status → IsCall asked shown shown' a b r r' w w' f f' status
-done_call asked words shown shown' a b r r' w w' f f' status is done =
-    inl (subst (λ (x : Option Invocation). AreAnswered x shown shown' a b r r' w w' f f' status) (sym is) done)
+pub done_call : (asked : Option Invocation) (words : Invocation) (before after : Surroundings) (status : Status) → asked ≡ Some words
+    → ComesOfCommand words.command before after status → IsCall asked before after status
+done_call asked words before after status is done = inl (subst (λ (x : Option Invocation). AreAnswered x before after status) (sym is) done)
 
 -- they ask for none
 pub none_asked : (asked : Option Invocation) (fault : WordsFault) → fault ≡ faults.Usage → IsAnswer asked (Err fault) → asked ≡ None
 none_asked asked fault is answer = subst (λ (x : WordsFault). IsAnswer asked (Err x)) is answer
 
+-- the usage line is the text that is written
+pub closes_usage : (w w' : Option (List ℕ)) (f f' : ℕ) (status : Status)
+    → Closes (record { text = codes "usage: uac_cli check|show|elements|run|gen NUMBER|settle [--rack plain|lanes]\n"; status = statuses.Usage }) w w' f f' status
+    → Closes usage w w' f f' status
+closes_usage w w' f f' status closed = closed
+
 pub usage_call : (asked : Option Invocation) (fault : WordsFault) (shown : List Reading) (a : Option (List ℕ)) (r : ℕ) (w w' : Option (List ℕ)) (f f' : ℕ) (status : Status)
-    → fault ≡ faults.Usage → IsAnswer asked (Err fault) → Closes usage w w' f f' status → IsCall asked shown shown a a r r w w' f f' status
+    → fault ≡ faults.Usage → IsAnswer asked (Err fault) → Closes usage w w' f f' status
+    → IsCall asked (surroundings (outside a r w f) shown) (surroundings (outside a r w' f') shown) status
 usage_call asked fault shown a r w w' f f' status is answer closed =
     let none = none_asked asked fault is answer in
-    inl (subst (λ (x : Option Invocation). AreAnswered x shown shown a a r r w w' f f' status) (sym none) (usage_run shown a r w w' f f' status closed))
+    inl (subst (λ (x : Option Invocation). AreAnswered x (surroundings (outside a r w f) shown) (surroundings (outside a r w' f') shown) status) (sym none)
+    (printed usage shown a r w w' f f' status closed))
 
 -- there was no memory to read them
 pub unread_call : (asked : Option Invocation) (shown : List Reading) (a : Option (List ℕ)) (r : ℕ) (w w' : Option (List ℕ)) (f f' : ℕ) (status : Status)
-    → Closes (outcome_of no_memory) w w' f f' status → IsCall asked shown shown a a r r w w' f f' status
-unread_call asked shown a r w w' f f' status closed = inr (printed (outcome_of no_memory) shown a r w w' f f' status closed)
+    → Closes no_memory w w' f f' status → IsCall asked (surroundings (outside a r w f) shown) (surroundings (outside a r w' f') shown) status
+unread_call asked shown a r w w' f f' status closed = inr (printed no_memory shown a r w w' f f' status closed)
 
 -- the words ask for a command that reads the source to its end
-pub read_to_end : (asked : Option Invocation) (words : Invocation) (left : Option (List ℕ)) (status : Status) → asked ≡ Some words
-    → (status ≡ statuses.Ok → reads_all words.command ≡ true → IsAtEnd left) → status ≡ statuses.Ok → ask_to_read asked ≡ true → IsAtEnd left
-read_to_end asked words left status is at_end ok reads = at_end ok (ap ask_to_read (sym is) ∙ reads)
+pub read_to_end : (asked : Option Invocation) (words : Invocation) (after : Outside) (status : Status) → asked ≡ Some words
+    → (reads_all words.command ≡ true → IsReadToEnd after status) → status ≡ statuses.Ok → ask_to_read asked ≡ true → IsAtEnd after.left
+read_to_end asked words after status is at_end ok reads = at_end (ap ask_to_read (sym is) ∙ reads) ok
 
 -- ---- where the text is all of a call
 
@@ -123,7 +134,7 @@ pub record IsRefusal (outcome : Outcome) : Type 0 where
 pub usage_refuses : IsRefusal usage
 usage_refuses = record { unfinished = (λ e. cc); unread = (λ e. cc); unwritten = (λ e. cc) }
 
-pub memory_refuses : IsRefusal (outcome_of no_memory)
+pub memory_refuses : IsRefusal no_memory
 memory_refuses = record { unfinished = (λ e. cc); unread = (λ e. cc); unwritten = (λ e. cc) }
 
 pub refused_cause : (outcome : Outcome) → IsRefusal outcome → (w w' : Option (List ℕ)) (f f' : ℕ) (status : Status)
@@ -137,8 +148,8 @@ module _ (outcome : Outcome) (refuses : IsRefusal outcome) (w w' : Option (List 
   refused_unread reads is =
       absurd (told_status outcome w w' f f' status closed (λ e. refuses.unread (sym e ∙ is)) (read_is_no_write status is))
 
-  pub refused_faultless : (reads : ℕ) → IsFaultless reads reads f f' status
-  refused_faultless reads unread unwritten = (refl, closes_faultless outcome w w' f f' status closed unwritten)
+  pub refused_faultless : (left : Option (List ℕ)) (reads : ℕ) → IsFaultless (outside left reads w f) (outside left reads w' f') status
+  refused_faultless left reads unread unwritten = (refl, closes_faultless outcome w w' f f' status closed unwritten)
 
   pub refused_end : (asked : Option Invocation) (left : Option (List ℕ)) → status ≡ statuses.Ok → ask_to_read asked ≡ true → IsAtEnd left
   refused_end asked left is reads =

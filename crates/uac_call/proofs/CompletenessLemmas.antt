@@ -1,102 +1,92 @@
 -- From what a call came to, to what all of its input comes to.
 use Rattle.std.proofs.Common.{◌≡◌, ◌≢◌, ℕ, ◌⊎◌, inl, inr, List, Option, Some, refl, sym, ap, subst, ◌∙◌, arith}
-use Rattle.std.specs.Io.KnownBytes.{Appends}
-use Rattle.uac_edges.specs.Faults.{Rose}
-use Rattle.uac_units.specs.Hearing.{Reading}
 use Rattle.uac_words.specs.declared.commands.Command.{Command}
 use Rattle.uac_words.specs.declared.commands.Command.TheVariants as commands
 use Rattle.uac_words.specs.declared.commands.Invocation.{Invocation}
 use Rattle.uac_gen.specs.GeneratedScript.{script_of}
-use Rattle.uac_scripts.specs.declared.jobs.SourceJob.TheVariants.{Describe, Run}
+use Rattle.uac_rows.specs.BusWorld.{BusWorld, meters_in, start}
+use Rattle.uac_transcript.specs.Transcript.{Said}
+use Rattle.uac_ends.specs.declared.status.Status.{Status}
+use Rattle.uac_ends.specs.declared.status.Status.TheVariants as statuses
+use Rattle.uac_ends.specs.Closing.{ComesTo, HasNoFault, HasWriteCause, IsClosed}
+use Rattle.uac_ends.specs.Outcome.{Outcome, at_end, no_memory}
+use Rattle.uac_ends.specs.Outside.{Outside}
+use Rattle.uac_ends.proofs.ClosingLemmas.{closed_whole}
 use Rattle.uac_describe.specs.declared.description.Description.{Description}
 use Rattle.uac_describe.specs.declared.description.Description.TheVariants.{Check, Elements, Show}
-use Rattle.uac_describe.specs.declared.status.Status.{Status}
-use Rattle.uac_describe.specs.declared.status.Status.TheVariants as statuses
-use Rattle.uac_describe.specs.Outcome.{IsOutcomeOf, Outcome, at_end, no_memory, outcome_of}
-use Rattle.uac_describe.specs.Closing.{Closes, HasNoFault}
-use Rattle.uac_scripts.specs.ScriptRun.{IsRun}
-use Rattle.uac_call.specs.Call.{AreAnswered, IsCall, ComesOfCommand}
+use Rattle.uac_describe.specs.Outcome.{IsOutcomeOf}
 use Rattle.uac_describe.specs.SettleLines.{settle_outcome}
-use Rattle.uac_call.specs.Completeness.{ComesTo, HasInput, IsCompleteCall, ScriptComesTo}
-use Rattle.uac_scripts.specs.ScriptTranscript.{Ending}
-use Rattle.uac_scripts.proofs.ComputedLemmas.{one_transcript}
-use Rattle.uac_scripts.proofs.ScriptTranscriptWholeLemmas.{done_once}
 use Rattle.uac_describe.proofs.OutcomeLemmas.{said_once}
-
--- no write failed, so the whole text was written
-closed_whole : (outcome : Outcome) (w w' : Option (List ℕ)) (f f' : ℕ) (status : Status) → HasNoFault f f' → Closes outcome w w' f f' status
-    → (status ≡ outcome.status) × Appends w w' outcome.text
-closed_whole outcome w w' f f' status quiet (inl all) = (all.0, all.1)
-closed_whole outcome w w' f f' status quiet (inr cut) = absurd (quiet cut.1)
+use Rattle.uac_runner.specs.Transcript.{Ending, outcome_of, transcript}
+use Rattle.uac_runner.proofs.WholeLemmas.{run_complete}
+use Rattle.uac_scripts.specs.BusMachine.{bus_machine}
+use Rattle.uac_scripts.specs.BusRun.{IsBusRun}
+use Rattle.uac_scripts.specs.Surroundings.{Surroundings, with_source}
+use Rattle.uac_scripts.proofs.BusLemmas.{one_transcript}
+use Rattle.uac_call.specs.Call.{AreAnswered, ComesOfCommand, Describes, IsCall}
+use Rattle.uac_call.specs.Completeness.{HasInput, InputComesTo, IsCompleteCall, ScriptComesTo}
 
 -- a source that never failed
 pub never_failed : HasNoFault 0 0
 never_failed (inl less) = omega arith
 never_failed (inr last) = omega arith
 
-module _ (w w' : Option (List ℕ)) (f f' : ℕ) (status : Status) (quiet : HasNoFault f f') where
-  -- the outcome's status and its whole text, or want of memory
-  abbrev IsWhole : Outcome → Type 0
-  IsWhole outcome = ((status ≡ outcome.status) × Appends w w' outcome.text) ⊎ (status ≡ statuses.NoMemory)
+-- the outcome's status and its whole text, or want of memory
+abbrev IsWhole : Outcome → Outside → Outside → Status → Type 0
+IsWhole outcome before after status = ComesTo outcome before after status ⊎ (status ≡ statuses.NoMemory)
+
+module _ (before after : Outside) (status : Status) (quiet : HasNoFault before.writes after.writes) where
+  -- no write failed, so the whole text was written
+  whole : (outcome : Outcome) → IsClosed outcome before after status → ComesTo outcome before after status
+  whole outcome closed = closed_whole outcome before.written after.written before.writes after.writes status quiet closed
 
   -- of one outcome that is another
-  whole_of : (one other : Outcome) → one ≡ other → Closes one w w' f f' status → IsWhole other
-  whole_of one other same closed = inl (subst (λ (o : Outcome). (status ≡ o.status) × Appends w w' o.text) same (closed_whole one w w' f f' status quiet closed))
+  whole_of : (one other : Outcome) → one ≡ other → IsClosed one before after status → IsWhole other before after status
+  whole_of one other same closed = inl (subst (λ (o : Outcome). ComesTo o before after status) same (whole one closed))
 
   -- memory was wanted
-  wanted_of : (one other : Outcome) → one.status ≡ statuses.NoMemory → Closes one w w' f f' status → IsWhole other
-  wanted_of one other is closed = inr ((closed_whole one w w' f f' status quiet closed).0 ∙ is)
+  wanted_of : (one other : Outcome) → one.status ≡ statuses.NoMemory → IsClosed one before after status → IsWhole other before after status
+  wanted_of one other is closed = inr ((whole one closed).0 ∙ is)
 
-  module _ (shown shown' : List Reading) (a b : Option (List ℕ)) (r r' : ℕ) (bytes : List ℕ) (outcome : Outcome) where
-    described_whole : (description : Description) → IsRun (Some (Describe description)) shown shown' a b r r' w w' f f' status → a ≡ Some bytes → HasNoFault r r'
-        → IsOutcomeOf description bytes at_end outcome → IsWhole outcome
-    described_whole description run is rests said = elim run.meant.0 as (λ _. IsWhole outcome) [
-      | inl answers ↦
-          whole_of run.outcome outcome
-          (said_once description bytes run.taken a b r r' run.end run.outcome outcome is run.consumed rests run.ended answers said) run.closed
-      | inr none ↦ wanted_of run.outcome outcome (ap (λ (o : Outcome). o.status) none) run.closed
-    ]
+module _ (before after : Surroundings) (status : Status) (bytes : List ℕ) (outcome : Outcome) (quiet : HasNoFault before.outer.writes after.outer.writes) where
+  described_whole : (description : Description) → Describes description before after status → before.outer.left ≡ Some bytes → HasNoFault before.outer.reads after.outer.reads
+      → IsOutcomeOf description bytes at_end outcome → IsWhole outcome before.outer after.outer status
+  described_whole description describes is rests said =
+      let run = describes.described in
+      elim run.meant as (λ _. IsWhole outcome before.outer after.outer status) [
+        | inl answers ↦
+            whole_of before.outer after.outer status quiet run.outcome outcome
+            (said_once description bytes run.taken before.outer.left after.outer.left before.outer.reads after.outer.reads run.end run.outcome outcome is run.consumed rests run.ended answers said) run.closed
+        | inr none ↦ wanted_of before.outer after.outer status quiet run.outcome outcome (ap (λ (o : Outcome). o.status) none) run.closed
+      ]
 
-    script_whole : IsRun (Some Run) shown shown' a b r r' w w' f f' status → a ≡ Some bytes → HasNoFault r r' → status ≢ statuses.WriteFault
-        → ScriptComesTo shown bytes outcome → IsWhole outcome
-    script_whole run is rests written said =
-        let came = run.meant in
-        elim came.meant as (λ _. IsWhole outcome) [
-          | inl ends ↦
-              let now = one_transcript shown run.taken run.end came.ending ends in
-              let all = one_transcript shown bytes at_end said.0 said.1 in
-              let closed = closed_whole run.outcome w w' f f' status quiet run.closed in
-              let same = done_once shown bytes run.taken a b r r' run.end is run.consumed rests run.ended
-              (λ fault. written (closed.0 ∙ ap (λ (o : Outcome). o.status) came.printed ∙ ap (λ (e : Ending). e.printed.status) now ∙ fault)) in
-              whole_of run.outcome outcome (came.printed ∙ ap (λ (e : Ending). outcome_of e.printed) (now ∙ sym same ∙ sym all) ∙ said.2) run.closed
-          | inr wanted ↦
-              wanted_of run.outcome outcome (ap (λ (o : Outcome). o.status) came.printed ∙ ap (λ (e : Ending). e.printed.status) wanted.is) run.closed
-        ]
+  script_whole : IsBusRun before after status → before.outer.left ≡ Some bytes → HasNoFault before.outer.reads after.outer.reads → HasWriteCause before.outer after.outer status
+      → ScriptComesTo before.shown bytes outcome → IsWhole outcome before.outer after.outer status
+  script_whole bus is rests cause said =
+      let m = bus_machine bus.says in
+      elim (run_complete m (start before.shown) (λ w. after.shown ≡ meters_in w) before.outer after.outer status bus.run cause bytes is (record { read = rests; wrote = quiet })) as (λ _. IsWhole outcome before.outer after.outer status) [
+        | inl came ↦
+            let same : outcome_of m (transcript m (start before.shown) bytes at_end) ≡ outcome =
+            ap (λ (e : Ending BusWorld Said). outcome_of m e) (one_transcript bus.says said.0 bus.by_table said.1 (start before.shown) bytes at_end) ∙ said.2 in
+            inl (subst (λ (o : Outcome). ComesTo o before.outer after.outer status) same came)
+        | inr wanted ↦ inr wanted
+      ]
 
-  module _ (shown shown' : List Reading) (a b : Option (List ℕ)) (r r' : ℕ) (bytes : List ℕ) (outcome : Outcome) where
-    command_whole : (command : Command) → ComesOfCommand command shown shown' a b r r' w w' f f' status → HasInput command a r r' bytes → status ≢ statuses.WriteFault
-        → ComesTo command shown bytes outcome → IsWhole outcome
-    command_whole commands.Check run input written said =
-        let i = input refl in described_whole shown shown' a b r r' bytes outcome Check run i.0 i.1 said
-    command_whole commands.Show run input written said =
-        let i = input refl in described_whole shown shown' a b r r' bytes outcome Show run i.0 i.1 said
-    command_whole commands.Elements run input written said =
-        let i = input refl in described_whole shown shown' a b r r' bytes outcome Elements run i.0 i.1 said
-    command_whole commands.Run run input written said =
-        let i = input refl in script_whole shown shown' a b r r' bytes outcome run i.0 i.1 written said
-    command_whole (commands.Gen number) generated input written said =
-        script_whole shown shown' (Some (script_of number)) generated.unread 0 0 (script_of number) outcome generated.run refl never_failed written said
-    command_whole commands.Settle prints input written said = whole_of settle_outcome outcome said prints.closed
+module _ (before after : Surroundings) (status : Status) (bytes : List ℕ) (outcome : Outcome) (quiet : HasNoFault before.outer.writes after.outer.writes) where
+  command_whole : (command : Command) → ComesOfCommand command before after status → HasInput command bytes before after → HasWriteCause before.outer after.outer status
+      → InputComesTo command before.shown bytes outcome → IsWhole outcome before.outer after.outer status
+  command_whole commands.Check describes input cause said = let i = input refl in described_whole before after status bytes outcome quiet Check describes i.0 i.1 said
+  command_whole commands.Show describes input cause said = let i = input refl in described_whole before after status bytes outcome quiet Show describes i.0 i.1 said
+  command_whole commands.Elements describes input cause said = let i = input refl in described_whole before after status bytes outcome quiet Elements describes i.0 i.1 said
+  command_whole commands.Run bus input cause said = let i = input refl in script_whole before after status bytes outcome quiet bus i.0 i.1 cause said
+  command_whole (commands.Gen number) generated input cause said =
+      script_whole (with_source (Some (script_of number)) 0 before) (with_source generated.unread 0 after) status (script_of number) outcome quiet generated.run refl never_failed cause said
+  command_whole commands.Settle prints input cause said = whole_of before.outer after.outer status quiet settle_outcome outcome said prints.closed
 
-module _ (asked : Option Invocation) (shown : List Reading) (a : Option (List ℕ)) (r r' : ℕ) (w w' : Option (List ℕ)) (f f' : ℕ) (status : Status) where
-  -- there was no memory to read the words
-  pub unread_whole : Closes (outcome_of no_memory) w w' f f' status → IsCompleteCall asked shown a r r' w w' f f' status
-  unread_whole closed words bytes outcome is input quiet said = inr (closed_whole (outcome_of no_memory) w w' f f' status quiet closed).0
-
-  -- they ask for a command, which was done
-  pub done_whole : (shown' : List Reading) (b : Option (List ℕ)) → IsCall asked shown shown' a b r r' w w' f f' status → (status ≡ statuses.WriteFault → Rose f f')
-      → IsCompleteCall asked shown a r r' w w' f f' status
-  done_whole shown' b (inl answered) cause words bytes outcome is input quiet said =
-      command_whole w w' f f' status quiet shown shown' a b r r' bytes outcome words.command
-      (subst (λ (x : Option Invocation). AreAnswered x shown shown' a b r r' w w' f f' status) is answered) input (λ e. quiet (cause e)) said
-  done_whole shown' b (inr prints) cause words bytes outcome is input quiet said = unread_whole prints.closed words bytes outcome is input quiet said
+-- a call is complete
+pub call_whole : (asked : Option Invocation) (before after : Surroundings) (status : Status) → IsCall asked before after status → HasWriteCause before.outer after.outer status
+    → IsCompleteCall asked before after status
+call_whole asked before after status (inl answered) cause words bytes outcome is input quiet said =
+    command_whole before after status bytes outcome quiet words.command
+    (subst (λ (x : Option Invocation). AreAnswered x before after status) is answered) input cause said
+call_whole asked before after status (inr prints) cause words bytes outcome is input quiet said = inr (whole before.outer after.outer status quiet no_memory prints.closed).0

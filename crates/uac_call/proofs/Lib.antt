@@ -1,4 +1,3 @@
-pub mod ScriptRunLemmas
 pub mod CallLemmas
 pub mod CompletenessLemmas
 pub mod GeneratedCallLemmas

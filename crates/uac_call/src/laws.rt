@@ -2,7 +2,7 @@
 ghost use Rattle.uac_call.specs.GeneratedCall.{GeneratedScriptsRunWhole};
 
 pub use uac_scripts::laws::{
-    a_script_has_one_transcript, refusal_stays, script_is_its_lines, script_is_what_its_lines_say,
+    a_script_has_one_transcript, lines_are_sayings, refusal_stays, script_is_what_its_lines_say,
 };
 
 /// `gen` has no refused line, and is steady: for every number its script prints the lines of all its lines, with status Ok, and every one

@@ -8,17 +8,20 @@ ghost use Rattle.uac_words.specs.Plain.{plainly};
 ghost use Rattle.uac_call.specs.Call.{IsCall, IsGenerated, ask_to_read};
 ghost use Rattle.uac_call.specs.Completeness.{IsCompleteCall};
 ghost use Rattle.uac_call.specs.Performing.{Performs};
-ghost use Rattle.uac_describe.specs.Closing.{IsFaultless};
+ghost use Rattle.uac_ends.specs.Closing.{IsFaultless};
+ghost use Rattle.uac_ends.specs.Outside.{outside};
+ghost use Rattle.uac_scripts.specs.Surroundings.{surroundings};
 
 use std::alloc::Global;
-use uac_describe::{Description, NO_MEMORY, Status, conclude, describe, hand_on, settle};
+use uac_describe::{Description, describe, settle};
 use uac_edges::{Sink, Source};
+use uac_ends::{NO_MEMORY, Status, conclude, hand_on};
 use uac_gen::GenSource;
 use uac_scripts::run_script;
 use uac_units::{Meter, Meters, Rack, Unit};
 use uac_words::{Command, Invocation, RackChoice, WordsFault};
 
-/// What is written where the words are no command.
+/// What is written where the words are no command: how the program is used.
 const USAGE: &[u8] =
     b"usage: uac_cli check|show|elements|run|gen NUMBER|settle [--rack plain|lanes]\n";
 
@@ -47,15 +50,17 @@ pub fn uac_main<S: Source, K: Sink>(
 
     // Status, text and what the meters show follow from the words and the bytes that were taken.
     ensures call { IsCall (plainly (map (λ word. string_bytes word) words.now))
-        (readings (λ v x. (⟦<dyn Meter as Meter>⟧ v).reading_of x) meters.old)
-        (readings (λ v x. (⟦<dyn Meter as Meter>⟧ v).reading_of x) meters.new)
-        (S.left source.old) (S.left source.new) (S.faults source.old) (S.faults source.new)
-        (K.written sink.old) (K.written sink.new) (K.faults sink.old) (K.faults sink.new) result }
+        (surroundings (outside (S.left source.old) (S.faults source.old) (K.written sink.old) (K.faults sink.old))
+        (readings (λ v x. (⟦<dyn Meter as Meter>⟧ v).reading_of x) meters.old))
+        (surroundings (outside (S.left source.new) (S.faults source.new) (K.written sink.new) (K.faults sink.new))
+        (readings (λ v x. (⟦<dyn Meter as Meter>⟧ v).reading_of x) meters.new)) result }
 
     // Each fault of the outside has its cause in this call; and a call that tells of none met none.
     ensures read_fault { result ≡ Status.ReadFault → Rose (S.faults source.old) (S.faults source.new) }
     ensures write_fault { result ≡ Status.WriteFault → Rose (K.faults sink.old) (K.faults sink.new) }
-    ensures faultless { IsFaultless (S.faults source.old) (S.faults source.new) (K.faults sink.old) (K.faults sink.new) result }
+    ensures faultless { IsFaultless
+        (outside (S.left source.old) (S.faults source.old) (K.written sink.old) (K.faults sink.old))
+        (outside (S.left source.new) (S.faults source.new) (K.written sink.new) (K.faults sink.new)) result }
 
     // The whole input was read, where the command reads it.
     ensures ok { result ≡ Status.Ok → ask_to_read (plainly (map (λ word. string_bytes word) words.now)) ≡ true
@@ -63,9 +68,10 @@ pub fn uac_main<S: Source, K: Sink>(
 
     // Where no read and no write failed and there was memory, status and text are what the whole input comes to, to its end.
     ensures complete { IsCompleteCall (plainly (map (λ word. string_bytes word) words.now))
-        (readings (λ v x. (⟦<dyn Meter as Meter>⟧ v).reading_of x) meters.old)
-        (S.left source.old) (S.faults source.old) (S.faults source.new)
-        (K.written sink.old) (K.written sink.new) (K.faults sink.old) (K.faults sink.new) result }
+        (surroundings (outside (S.left source.old) (S.faults source.old) (K.written sink.old) (K.faults sink.old))
+        (readings (λ v x. (⟦<dyn Meter as Meter>⟧ v).reading_of x) meters.old))
+        (surroundings (outside (S.left source.new) (S.faults source.new) (K.written sink.new) (K.faults sink.new))
+        (readings (λ v x. (⟦<dyn Meter as Meter>⟧ v).reading_of x) meters.new)) result }
 
     // Where no failed write is told, all that was written was handed on.
     ensures handed_on { result ≢ Status.WriteFault → K.waiting sink.new ≡ 0 }
@@ -92,10 +98,10 @@ fn perform<S: Source, K: Sink>(
     requires plain { IsFitted (λ v x. (⟦<dyn Unit as Unit>⟧ v).kind_of x) racks.now.plain }
     requires lanes { IsFitted (λ v x. (⟦<dyn Unit as Unit>⟧ v).kind_of x) racks.now.lanes }
     ensures { Performs words.command
-        (readings (λ v x. (⟦<dyn Meter as Meter>⟧ v).reading_of x) meters.old)
-        (readings (λ v x. (⟦<dyn Meter as Meter>⟧ v).reading_of x) meters.new)
-        (S.left source.old) (S.left source.new) (S.faults source.old) (S.faults source.new)
-        (K.written sink.old) (K.written sink.new) (K.faults sink.old) (K.faults sink.new) result }
+        (surroundings (outside (S.left source.old) (S.faults source.old) (K.written sink.old) (K.faults sink.old))
+        (readings (λ v x. (⟦<dyn Meter as Meter>⟧ v).reading_of x) meters.old))
+        (surroundings (outside (S.left source.new) (S.faults source.new) (K.written sink.new) (K.faults sink.new))
+        (readings (λ v x. (⟦<dyn Meter as Meter>⟧ v).reading_of x) meters.new)) result }
 {
     match words.rack {
         RackChoice::Plain => do_command(alloc, words.command, source, sink, &racks.plain, meters),
@@ -114,10 +120,10 @@ fn do_command<S: Source, K: Sink>(
 ) -> Status
     requires rack { IsFitted (λ v x. (⟦<dyn Unit as Unit>⟧ v).kind_of x) rack.now }
     ensures { Performs command
-        (readings (λ v x. (⟦<dyn Meter as Meter>⟧ v).reading_of x) meters.old)
-        (readings (λ v x. (⟦<dyn Meter as Meter>⟧ v).reading_of x) meters.new)
-        (S.left source.old) (S.left source.new) (S.faults source.old) (S.faults source.new)
-        (K.written sink.old) (K.written sink.new) (K.faults sink.old) (K.faults sink.new) result }
+        (surroundings (outside (S.left source.old) (S.faults source.old) (K.written sink.old) (K.faults sink.old))
+        (readings (λ v x. (⟦<dyn Meter as Meter>⟧ v).reading_of x) meters.old))
+        (surroundings (outside (S.left source.new) (S.faults source.new) (K.written sink.new) (K.faults sink.new))
+        (readings (λ v x. (⟦<dyn Meter as Meter>⟧ v).reading_of x) meters.new)) result }
 {
     match command {
         Command::Check => describe(alloc, Description::Check, source, sink),
@@ -139,9 +145,10 @@ fn generate<K: Sink>(
 ) -> Status
     requires rack { IsFitted (λ v x. (⟦<dyn Unit as Unit>⟧ v).kind_of x) rack.now }
     ensures generated { (left : Option (List ℕ)) (reads : ℕ) → IsGenerated number
-        (readings (λ v x. (⟦<dyn Meter as Meter>⟧ v).reading_of x) meters.old)
-        (readings (λ v x. (⟦<dyn Meter as Meter>⟧ v).reading_of x) meters.new)
-        left left reads reads (K.written sink.old) (K.written sink.new) (K.faults sink.old) (K.faults sink.new) result }
+        (surroundings (outside left reads (K.written sink.old) (K.faults sink.old))
+        (readings (λ v x. (⟦<dyn Meter as Meter>⟧ v).reading_of x) meters.old))
+        (surroundings (outside left reads (K.written sink.new) (K.faults sink.new))
+        (readings (λ v x. (⟦<dyn Meter as Meter>⟧ v).reading_of x) meters.new)) result }
     ensures never_read { result ≢ Status.ReadFault }
     ensures write_fault { result ≡ Status.WriteFault → Rose (K.faults sink.old) (K.faults sink.new) }
     ensures faultless { result ≢ Status.WriteFault → K.faults sink.new ≡ K.faults sink.old }

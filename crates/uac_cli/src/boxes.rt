@@ -2,12 +2,13 @@
 ghost use Rattle.std.specs.Prelude.{◌≡◌, map, string_bytes, IfOk, OnErr};
 ghost use Rattle.uac_units.specs.Fitting.{IsFitted};
 ghost use Rattle.uac_words.specs.Plain.{plainly};
+ghost use Rattle.uac_ends.specs.Outside.{outside};
 ghost use Rattle.uac_cli.specs.Boxes.{IsFreshRun};
 
 use std::alloc::{AllocError, Global};
 use uac_call::{Racks, uac_main};
-use uac_describe::Status;
 use uac_edges::{Sink, Source};
+use uac_ends::Status;
 use uac_units::{
     ClippedMeter, LaneEffect, LaneFeature, LaneMixer, LaneSelector, Meter, Meters, PeakMeter,
     PlainEffect, PlainFeature, PlainMixer, PlainSelector, Rack, SumMeter, Unit,
@@ -22,8 +23,8 @@ pub fn run_in_boxes<S: Source, K: Sink>(
 ) -> Result<Status, AllocError>
     // What it comes to, with meters that have heard nothing.
     ensures run { IfOk result (λ status. IsFreshRun (plainly (map (λ word. string_bytes word) words.now))
-        (S.left source.old) (S.left source.new) (S.faults source.old) (S.faults source.new)
-        (K.written sink.old) (K.written sink.new) (K.faults sink.old) (K.faults sink.new) (K.waiting sink.new) status) }
+        (outside (S.left source.old) (S.faults source.old) (K.written sink.old) (K.faults sink.old))
+        (outside (S.left source.new) (S.faults source.new) (K.written sink.new) (K.faults sink.new)) (K.waiting sink.new) status) }
 
     // Where there is no memory for the boxes nothing is taken and nothing is written.
     ensures untaken { OnErr result (source.new ≡ source.old) }
@@ -57,8 +58,8 @@ fn run_with_racks<S: Source, K: Sink>(
     requires plain { IsFitted (λ v x. (⟦<dyn Unit as Unit>⟧ v).kind_of x) racks.now.plain }
     requires lanes { IsFitted (λ v x. (⟦<dyn Unit as Unit>⟧ v).kind_of x) racks.now.lanes }
     ensures run { IfOk result (λ status. IsFreshRun (plainly (map (λ word. string_bytes word) words.now))
-        (S.left source.old) (S.left source.new) (S.faults source.old) (S.faults source.new)
-        (K.written sink.old) (K.written sink.new) (K.faults sink.old) (K.faults sink.new) (K.waiting sink.new) status) }
+        (outside (S.left source.old) (S.faults source.old) (K.written sink.old) (K.faults sink.old))
+        (outside (S.left source.new) (S.faults source.new) (K.written sink.new) (K.faults sink.new)) (K.waiting sink.new) status) }
     ensures untaken { OnErr result (source.new ≡ source.old) }
     ensures unwritten { OnErr result (sink.new ≡ sink.old) }
 {

@@ -15,8 +15,8 @@ pub use program::run_program;
 use std::env;
 use std::process::ExitCode;
 pub use uac_call::{Racks, uac_main};
-pub use uac_describe::{Status, exit_code};
 use uac_edges::{Gathering, StdSink, StdSource};
+pub use uac_ends::{Status, exit_code};
 
 fn main(rt: HostRuntime) -> ExitCode {
     let alloc = rt.alloc();

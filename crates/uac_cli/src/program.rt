@@ -2,10 +2,10 @@
 ghost use Rattle.std.specs.Prelude.{◌≡◌, ◌≢◌, true};
 ghost use Rattle.std.specs.Io.KnownBytes.{IsAtEnd};
 ghost use Rattle.uac_edges.specs.Faults.{Rose};
-ghost use Rattle.uac_cli.specs.Boxes.{IsFreshCall, fresh_readings};
+ghost use Rattle.uac_cli.specs.Boxes.{IsCompleteFreshCall, IsFreshCall};
 ghost use Rattle.uac_call.specs.Call.{ask_to_read};
-ghost use Rattle.uac_call.specs.Completeness.{IsCompleteCall};
-ghost use Rattle.uac_describe.specs.Closing.{IsFaultless};
+ghost use Rattle.uac_ends.specs.Closing.{IsFaultless};
+ghost use Rattle.uac_ends.specs.Outside.{outside};
 ghost use Rattle.uac_cli.specs.Program.{asked_by};
 
 use crate::arguments::words;
@@ -13,9 +13,9 @@ use crate::boxes::run_in_boxes;
 use std::alloc::Global;
 use std::env::Args;
 use std::io;
-use uac_describe::{NO_MEMORY, Status, conclude};
 use uac_descriptor::NoMemory;
 use uac_edges::{Sink, Source};
+use uac_ends::{NO_MEMORY, Status, conclude};
 
 /// Runs the program with the arguments of its process, of which the first is its name.
 pub fn run_program<S: Source, K: Sink>(
@@ -25,20 +25,24 @@ pub fn run_program<S: Source, K: Sink>(
     sink: &mut K,
 ) -> Status
     // Status and text follow from the words after the name and the bytes that were taken.
-    ensures call { IsFreshCall (asked_by args) (S.left source.old) (S.left source.new) (S.faults source.old) (S.faults source.new)
-        (K.written sink.old) (K.written sink.new) (K.faults sink.old) (K.faults sink.new) result }
+    ensures call { IsFreshCall (asked_by args)
+        (outside (S.left source.old) (S.faults source.old) (K.written sink.old) (K.faults sink.old))
+        (outside (S.left source.new) (S.faults source.new) (K.written sink.new) (K.faults sink.new)) result }
 
     // Each fault of the outside has its cause in this call; and a call that tells of none met none.
     ensures read_fault { result ≡ Status.ReadFault → Rose (S.faults source.old) (S.faults source.new) }
     ensures write_fault { result ≡ Status.WriteFault → Rose (K.faults sink.old) (K.faults sink.new) }
-    ensures faultless { IsFaultless (S.faults source.old) (S.faults source.new) (K.faults sink.old) (K.faults sink.new) result }
+    ensures faultless { IsFaultless
+        (outside (S.left source.old) (S.faults source.old) (K.written sink.old) (K.faults sink.old))
+        (outside (S.left source.new) (S.faults source.new) (K.written sink.new) (K.faults sink.new)) result }
 
     // The whole input was read, where the command reads it.
     ensures ok { result ≡ Status.Ok → ask_to_read (asked_by args) ≡ true → IsAtEnd (S.left source.new) }
 
     // Where no read and no write failed and there was memory, status and text are what the whole input comes to, to its end.
-    ensures complete { IsCompleteCall (asked_by args) fresh_readings (S.left source.old) (S.faults source.old) (S.faults source.new)
-        (K.written sink.old) (K.written sink.new) (K.faults sink.old) (K.faults sink.new) result }
+    ensures complete { IsCompleteFreshCall (asked_by args)
+        (outside (S.left source.old) (S.faults source.old) (K.written sink.old) (K.faults sink.old))
+        (outside (S.left source.new) (S.faults source.new) (K.written sink.new) (K.faults sink.new)) result }
 
     // Where no failed write is told, all that was written was handed on.
     ensures handed_on { result ≢ Status.WriteFault → K.waiting sink.new ≡ 0 }

@@ -1,4 +1,3 @@
 pub mod AnsweredLemmas
 pub mod OutcomeLemmas
 pub mod SourceParsingLemmas
-pub mod HandingOnLemmas

@@ -14,8 +14,9 @@ use Rattle.uac_grammar.proofs.StopLemmas.{stop_at-Fault}
 use Rattle.uac_topology_rules.specs.declared.fault.TopologyFault.{TopologyFault}
 use Rattle.uac_configuration.proofs.DescriptionLemmas.{function_is}
 use Rattle.uac_describe.specs.declared.description.Description.{Description}
-use Rattle.uac_describe.specs.Closing.{HasEnded, HasNoFault}
-use Rattle.uac_describe.specs.Outcome.{End, at_end, Outcome, outcome_of, refusal, sound, unsound, IsTopologyVerdict, is_sound, is_broken, IsOutcomeOf, shows_fault, fails, ends_in_fault, is_read}
+use Rattle.uac_ends.specs.Closing.{ShowsEnd, HasNoFault}
+use Rattle.uac_ends.specs.Outcome.{End, at_end, Outcome, refusal, unsound}
+use Rattle.uac_describe.specs.Outcome.{sound, IsTopologyVerdict, is_sound, is_broken, IsOutcomeOf, shows_fault, fails, ends_in_fault, is_read}
 
 -- ---- what was taken
 
@@ -40,7 +41,7 @@ front_of (Some all) (Some rest) bytes taken is consumed =
 
 -- what is said of what was taken is said of all the bytes
 said_of_all : (description : Description) (bytes taken : List ℕ) (left : Option (List ℕ)) (reads reads' : ℕ) (end : End) (outcome : Outcome)
-    → IsFront bytes taken left → HasNoFault reads reads' → HasEnded end left reads reads' → IsOutcomeOf description taken end outcome → IsOutcomeOf description bytes at_end outcome
+    → IsFront bytes taken left → HasNoFault reads reads' → ShowsEnd end left reads reads' → IsOutcomeOf description taken end outcome → IsOutcomeOf description bytes at_end outcome
 said_of_all description bytes taken left reads reads' end outcome front rests ended (shows_fault same fault shown) =
     let stop = shown_stop_first (taken ++ front.rest) (Fault fault) (shown_stop_stays taken front.rest (Fault fault) (ap stop_at shown)) in
     ends_in_fault fault (ap first_fault front.parts ∙ stop_at-Fault (first_fault (taken ++ front.rest)) fault stop)
@@ -52,7 +53,7 @@ said_of_all description bytes taken left reads reads' end outcome front rests en
 
 -- by the first fault of all the bytes, or by their blocks
 data IsSaid (description : Description) (bytes : List ℕ) (outcome : Outcome) : Type 0 where
-  at_fault : (fault : GrammarFault) → first_fault bytes ≡ Some fault → outcome ≡ outcome_of (refusal fault) → IsSaid description bytes outcome
+  at_fault : (fault : GrammarFault) → first_fault bytes ≡ Some fault → outcome ≡ refusal fault → IsSaid description bytes outcome
   at_blocks : (blocks : List Block) → IsSentence bytes blocks → IsTopologyVerdict description blocks outcome → IsSaid description bytes outcome
 
 said_by : (description : Description) (bytes : List ℕ) (end : End) (outcome : Outcome) → end ≡ at_end → IsOutcomeOf description bytes end outcome → IsSaid description bytes outcome
@@ -69,12 +70,12 @@ one_verdict description blocks one other (is_sound f none is) (is_sound g none' 
 one_verdict description blocks one other (is_sound f none is) (is_broken fault first) = absurd (let both : None ≡ Some fault = sym none ∙ first in cc)
 one_verdict description blocks one other (is_broken fault first) (is_sound f none is) = absurd (let both : None ≡ Some fault = sym none ∙ first in cc)
 one_verdict description blocks one other (is_broken fault first) (is_broken fault' first') =
-    let both : Some fault ≡ Some fault' = sym first ∙ first' in let same : fault ≡ fault' = cc in ap (λ (fault : TopologyFault). outcome_of (unsound fault)) same
+    let both : Some fault ≡ Some fault' = sym first ∙ first' in let same : fault ≡ fault' = cc in ap unsound same
 
 -- one thing is said of bytes
 one_said : (description : Description) (bytes : List ℕ) (one other : Outcome) → IsSaid description bytes one → IsSaid description bytes other → one ≡ other
 one_said description bytes one other (at_fault fault first is) (at_fault fault' first' is') =
-    let both : Some fault ≡ Some fault' = sym first ∙ first' in let same : fault ≡ fault' = cc in is ∙ ap (λ (fault : GrammarFault). outcome_of (refusal fault)) same ∙ sym is'
+    let both : Some fault ≡ Some fault' = sym first ∙ first' in let same : fault ≡ fault' = cc in is ∙ ap refusal same ∙ sym is'
 one_said description bytes one other (at_fault fault first is) (at_blocks blocks sentence verdict) =
     absurd (let both : None ≡ Some fault = sym (sentence_none bytes blocks sentence) ∙ first in cc)
 one_said description bytes one other (at_blocks blocks sentence verdict) (at_fault fault first is) =
@@ -85,7 +86,7 @@ one_said description bytes one other (at_blocks blocks sentence verdict) (at_blo
 
 -- what is said of what was taken is what is said of all the bytes
 pub said_once : (description : Description) (bytes taken : List ℕ) (left left' : Option (List ℕ)) (reads reads' : ℕ) (end : End) (outcome all : Outcome)
-    → left ≡ Some bytes → Consumes left left' taken → HasNoFault reads reads' → HasEnded end left' reads reads' → IsOutcomeOf description taken end outcome
+    → left ≡ Some bytes → Consumes left left' taken → HasNoFault reads reads' → ShowsEnd end left' reads reads' → IsOutcomeOf description taken end outcome
     → IsOutcomeOf description bytes at_end all → outcome ≡ all
 said_once description bytes taken left left' reads reads' end outcome all is consumed rests ended answers whole =
     one_said description bytes outcome all

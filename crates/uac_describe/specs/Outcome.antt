@@ -10,53 +10,14 @@ use Rattle.uac_topology.specs.Function.{FunctionFields}
 use Rattle.uac_topology.specs.Topology.{first_fault_of, IsSound, IsFunctionOf}
 use Rattle.uac_describe.specs.declared.description.Description.{Description}
 use Rattle.uac_describe.specs.declared.description.Description.TheVariants.{Check, Elements, Show}
-use Rattle.uac_describe.specs.declared.status.Status.{Status}
-use Rattle.uac_describe.specs.declared.status.Status.TheVariants as statuses
+use Rattle.uac_ends.specs.declared.status.Status.TheVariants as statuses
+use Rattle.uac_ends.specs.Outcome.{End, Outcome, at_end, read_failed, read_fault, refusal, unsound}
 use Rattle.uac_listing.specs.EntityLines.{entity_line}
 use Rattle.uac_listing.specs.SettingLines.{setting_lines}
 use Rattle.uac_listing.specs.ElementLines.{element_lines}
 use Rattle.uac_mixer.specs.ViewWorld.{known_view}
 use Rattle.uac_store.specs.StoreControls.{initial_controls}
 use Rattle.uac_listing.specs.BlockLines.{block_lines}
-use Rattle.uac_transcript.specs.Printing.{text_of}
-use Rattle.uac_transcript.specs.Transcript.{Said, says_no_memory, says_read_fault, says_refused, says_unsound}
-
--- why no more was taken of the source
-pub data End : Type 0 where
-  -- no byte is left
-  at_end : End
-  -- a read failed
-  read_failed : End
-  -- a refusal stands in what was taken, or memory was wanted
-  stopped : End
-
--- the text and the status
-pub record Outcome : Type 0 where
-  pub text : List ℕ
-  pub status : Status
-
--- typed lines and the status
-pub record Printed : Type 0 where
-  pub lines : List Said
-  pub status : Status
-
--- the text of typed lines, with their status
-abbrev pub outcome_of : Printed → Outcome
-outcome_of printed = record { text = text_of printed.lines; status = printed.status }
-
-abbrev pub read_fault : Printed
-read_fault = record { lines = says_read_fault ∷ []; status = statuses.ReadFault }
-
-abbrev pub no_memory : Printed
-no_memory = record { lines = says_no_memory ∷ []; status = statuses.NoMemory }
-
--- a descriptor breaks a rule of the grammar: the rule and its place
-abbrev pub refusal : GrammarFault → Printed
-refusal fault = record { lines = says_refused fault.rule fault.at ∷ []; status = statuses.Descriptor }
-
--- the function breaks a rule of the topology: the rule and its offender
-abbrev pub unsound : TopologyFault → Printed
-unsound fault = record { lines = says_unsound fault.rule fault.interface fault.id ∷ []; status = statuses.Descriptor }
 
 -- what is printed of a sound descriptor, its blocks and its function
 abbrev pub listing_of : Description → List Block → FunctionFields → List ℕ
@@ -78,18 +39,18 @@ pub data IsTopologyVerdict (description : Description) (blocks : List Block) : O
       → IsTopologyVerdict description blocks (sound description blocks function)
   -- the descriptor breaks this rule first
   is_broken : (fault : TopologyFault) → first_fault_of blocks ≡ Some fault
-      → IsTopologyVerdict description blocks (outcome_of (unsound fault))
+      → IsTopologyVerdict description blocks (unsound fault)
 
 -- What is said of a descriptor, by what was taken and why no more was.
 pub data IsOutcomeOf (description : Description) (taken : List ℕ) : End → Outcome → Type 0 where
   -- the bytes show a fault, whatever would follow
   shows_fault : (end : End) (fault : GrammarFault) → shown_fault taken ≡ Some fault
-      → IsOutcomeOf description taken end (outcome_of (refusal fault))
+      → IsOutcomeOf description taken end (refusal fault)
   -- no fault is shown, and a read failed
-  fails : shown_fault taken ≡ None → IsOutcomeOf description taken read_failed (outcome_of read_fault)
+  fails : shown_fault taken ≡ None → IsOutcomeOf description taken read_failed read_fault
   -- the bytes are all, and have a fault
   ends_in_fault : (fault : GrammarFault) → first_fault taken ≡ Some fault
-      → IsOutcomeOf description taken at_end (outcome_of (refusal fault))
+      → IsOutcomeOf description taken at_end (refusal fault)
   -- the bytes are all, and are these blocks
   is_read : (blocks : List Block) (outcome : Outcome) → IsSentence taken blocks → IsTopologyVerdict description blocks outcome
       → IsOutcomeOf description taken at_end outcome

@@ -3,8 +3,8 @@ use Rattle.std.specs.Prelude.{ℕ, List, [], ◌++◌, flat_map, codes, decimal}
 use Rattle.std.specs.Option.{option_map_or}
 use Rattle.uac_clock.specs.Nominal.{twelve_rates}
 use Rattle.uac_settle.specs.Settling.{bound_of}
-use Rattle.uac_describe.specs.declared.status.Status.TheVariants as statuses
-use Rattle.uac_describe.specs.Outcome.{Outcome}
+use Rattle.uac_ends.specs.declared.status.Status.TheVariants as statuses
+use Rattle.uac_ends.specs.Outcome.{Outcome}
 
 -- a rate's line: after how many microframes without a lost packet a stream is home
 abbrev pub settling_line : ℕ → List ℕ

@@ -7,18 +7,19 @@ ghost use Rattle.uac_edges.specs.Faults.{Rose, HasCause};
 ghost use Rattle.uac_edges.specs.Writing.{Writes};
 ghost use Rattle.uac_store.specs.StoreControls.{initial_controls};
 ghost use Rattle.uac_describe.specs.Answered.{IsDescribed, Judges, PrintsRefusal, RefusesFunction};
-ghost use Rattle.uac_describe.specs.Closing.{Closes, IsFaultless};
-ghost use Rattle.uac_describe.specs.Outcome.{listing_of, no_memory, outcome_of, sound};
+ghost use Rattle.uac_ends.specs.Closing.{Closes, IsFaultless};
+ghost use Rattle.uac_ends.specs.Outside.{outside};
+ghost use Rattle.uac_ends.specs.Outcome.{no_memory};
+ghost use Rattle.uac_describe.specs.Outcome.{listing_of, sound};
 
-use crate::closing::close;
 use crate::description::Description;
-use crate::lines::{NO_MEMORY, READ_FAULT, refusal_line, sound_line, unsound_line};
+use crate::lines::sound_line;
 use crate::parsing::{SourceEnd, read_descriptor};
-use crate::status::Status;
 use std::alloc::Global;
 use uac_configuration::bytes_of;
 use uac_descriptor::{Block, NoMemory};
 use uac_edges::{Failed, Sink, Source};
+use uac_ends::{NO_MEMORY, READ_FAULT, Status, close, refusal_line, unsound_line};
 use uac_grammar::ReadStop;
 use uac_listing::{write_blocks, write_elements, write_entities, write_settings};
 use uac_mixer::fresh_view;
@@ -33,11 +34,14 @@ pub fn describe<S: Source, K: Sink>(
     source: &mut S,
     sink: &mut K,
 ) -> Status
-    ensures answered { IsDescribed description (S.left source.old) (S.left source.new) (S.faults source.old) (S.faults source.new)
-        (K.written sink.old) (K.written sink.new) (K.faults sink.old) (K.faults sink.new) result }
+    ensures answered { IsDescribed description
+        (outside (S.left source.old) (S.faults source.old) (K.written sink.old) (K.faults sink.old))
+        (outside (S.left source.new) (S.faults source.new) (K.written sink.new) (K.faults sink.new)) result }
     ensures read_fault { result ≡ Status.ReadFault → Rose (S.faults source.old) (S.faults source.new) }
     ensures write_fault { result ≡ Status.WriteFault → Rose (K.faults sink.old) (K.faults sink.new) }
-    ensures faultless { IsFaultless (S.faults source.old) (S.faults source.new) (K.faults sink.old) (K.faults sink.new) result }
+    ensures faultless { IsFaultless
+        (outside (S.left source.old) (S.faults source.old) (K.written sink.old) (K.faults sink.old))
+        (outside (S.left source.new) (S.faults source.new) (K.written sink.new) (K.faults sink.new)) result }
     ensures ok { result ≡ Status.Ok → IsAtEnd (S.left source.new) }
 {
     match read_descriptor(alloc, source) {
@@ -81,7 +85,7 @@ fn print<K: Sink>(
 ) -> Status
     ensures { Closes (sound description blocks.now function) (K.written sink.old) (K.written sink.new) (K.faults sink.old)
         (K.faults sink.new) result
-        ⊎ Closes (outcome_of no_memory) (K.written sink.old) (K.written sink.new) (K.faults sink.old) (K.faults sink.new) result }
+        ⊎ Closes no_memory (K.written sink.old) (K.written sink.new) (K.faults sink.old) (K.faults sink.new) result }
 {
     match description {
         Description::Check => close(sink, sound_line(blocks, &function).as_bytes(), Status::Ok),
@@ -105,7 +109,7 @@ fn refuse<K: Sink>(stop: ReadStop, sink: &mut K) -> Status
 fn list<K: Sink>(alloc: Global, function: Function, sink: &mut K) -> Status
     ensures { (blocks : List Block) → Closes (sound Description.Elements blocks function) (K.written sink.old) (K.written sink.new)
         (K.faults sink.old) (K.faults sink.new) result
-        ⊎ Closes (outcome_of no_memory) (K.written sink.old) (K.written sink.new) (K.faults sink.old) (K.faults sink.new) result }
+        ⊎ Closes no_memory (K.written sink.old) (K.written sink.new) (K.faults sink.old) (K.faults sink.new) result }
 {
     match fresh_view(alloc, function) {
         Ok(view) => match write_elements(sink, view.elements()) {
@@ -121,7 +125,7 @@ fn list<K: Sink>(alloc: Global, function: Function, sink: &mut K) -> Status
 fn show<K: Sink>(alloc: Global, blocks: &[Block], function: &Function, sink: &mut K) -> Status
     ensures { Closes (sound Description.Show blocks.now function.now) (K.written sink.old) (K.written sink.new) (K.faults sink.old)
         (K.faults sink.new) result
-        ⊎ Closes (outcome_of no_memory) (K.written sink.old) (K.written sink.new) (K.faults sink.old) (K.faults sink.new) result }
+        ⊎ Closes no_memory (K.written sink.old) (K.written sink.new) (K.faults sink.old) (K.faults sink.new) result }
 {
     let store = match Store::new(alloc, function) {
         Ok(store) => store,

@@ -3,12 +3,12 @@ ghost use Rattle.std.specs.Prelude.{◌≡◌, ◌≢◌, ◌++◌, codes, decim
 ghost use Rattle.uac_edges.specs.Faults.{HasCause, Rose};
 ghost use Rattle.uac_edges.specs.Writing.{Writes};
 ghost use Rattle.uac_describe.specs.SettleLines.{settle_outcome, settling_line};
-ghost use Rattle.uac_describe.specs.Closing.{Closes};
+ghost use Rattle.uac_ends.specs.Closing.{Closes};
 
-use crate::status::Status;
 use uac_clock::RATES;
 use uac_clock::laws::nominal_values_leave_room;
 use uac_edges::{Failed, Sink, TextLine, give_all};
+use uac_ends::Status;
 use uac_settle::settle_bound;
 
 /// Prints for each of the twelve rates after how many microframes a stream is home.

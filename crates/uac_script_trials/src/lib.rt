@@ -1,7 +1,10 @@
-//! The tests of the crates of the outside through their public calls: sources and sinks, generated scripts, lines in and lines out, and
-//! the words of the command line. They stand in a crate of their own, since a crate with tests is proved twice.
+//! The tests of the crates of the outside through their public calls: sources and sinks, generated scripts, lines in and lines out, lines
+//! that run, and the words of the command line. They stand in a crate of their own, since a crate with tests is proved twice.
 #![tactic(auto)]
 
+/// A machine that counts lines.
+#[cfg(test)]
+mod counter;
 /// The objects in memory, and the writing of text.
 #[cfg(test)]
 mod edges;
@@ -14,6 +17,9 @@ mod generator;
 /// The lines of a script.
 #[cfg(test)]
 mod lines;
+/// Lines that run on that machine.
+#[cfg(test)]
+mod runs;
 /// What a line of a script says.
 #[cfg(test)]
 mod script;

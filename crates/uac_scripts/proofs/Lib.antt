@@ -1,9 +1,2 @@
-pub mod ComputedLemmas
-pub mod ScriptTranscriptWholeLemmas
-pub mod ScriptCutLemmas
-pub mod RunLinesLemmas
-pub mod ScriptTranscriptLemmas
-pub mod LineOutcomesHandingOnLemmas
-pub mod LineOutcomesIdleLemmas
-pub mod DoneScriptLemmas
-pub mod ScriptLemmas
+pub mod BusLemmas
+pub mod BusLineLemmas

@@ -1,10 +1,9 @@
--- A script's lines, one after the other, and what a run of them comes to.
+-- The bus as a machine that does a script's lines.
 -- What the program's theorem says: to be read and believed.
-pub mod ScriptRun
-pub mod ScriptTranscript
-pub mod Script
-pub mod DoneScript
+pub mod Surroundings
+pub mod BusMachine
+pub mod BusRun
 -- What the laws say besides.
-pub mod Computed
+pub mod BusLaws
 -- What the contracts below them cite: steps of the code, no part of what is promised.
-pub mod LineOutcomes
+pub mod BusMachineLaws

@@ -1,14 +1,12 @@
-//! A script's lines, done one after the other to its end or to the first that is refused: what they print, and how that ends.
+//! The bus as a machine that does a script's lines, and the run of a script on it.
 #![tactic(auto)]
 
-/// What is done with the bytes of a source.
-mod jobs;
 /// The laws that tie the transcript to the lines of the script.
 pub mod laws;
-/// The lines that are printed beside those of the script's lines.
-mod lines;
+/// The bus as a machine.
+mod machine;
 /// Running a script.
 mod running;
 
-pub use jobs::SourceJob;
+pub use machine::{BusRun, line_fault};
 pub use running::run_script;

@@ -1,5 +1,5 @@
 -- Profile: what COMMAND, NUMBER and the name of a rack ask for.
-use Rattle.std.specs.Prelude.{ℕ, ◌==◌, ◌&&◌, ◌||◌, not, nat_lt, nat_le, Bool, if◌then◌else◌, List, length, slice_index, codes, Option, Some}
+use Rattle.std.specs.Prelude.{ℕ, ◌==◌, ◌&&◌, ◌||◌, not, nat_lt, nat_le, Bool, if◌then◌else◌, List, [], ◌∷◌, length, slice_index, codes, Option, Some}
 use Rattle.std.specs.Prelude.{None}
 use Rattle.std.specs.List.{list_all}
 use Rattle.std.specs.Char.{is_ascii_digit}
@@ -7,10 +7,10 @@ use Rattle.std.specs.Str.{bytes_eq}
 use Rattle.std.specs.Option.{option_map}
 use Rattle.std.specs.Str.Parse.{digits_value}
 use Rattle.uac_words.specs.declared.commands.Command.{Command}
-use Rattle.uac_words.specs.declared.commands.Command.TheVariants.{Check, Show, Elements, Run, Gen, Settle}
 use Rattle.uac_words.specs.declared.commands.RackChoice.{RackChoice}
 use Rattle.uac_words.specs.declared.commands.RackChoice.TheVariants.{Plain, Lanes}
 use Rattle.uac_words.specs.declared.commands.Invocation.{Invocation}
+use Rattle.uac_words.specs.Table.{CommandRow, alone, with_number, command_rows}
 
 -- one decimal digit or more and nothing else; a 0 stands in front only where it stands alone
 unfoldable pub is_decimal : List ℕ → Bool
@@ -20,19 +20,24 @@ is_decimal text = nat_lt 0 (length text) && (not (slice_index text 0 == 48) || l
 unfoldable pub decimal_value_of : List ℕ → Option ℕ
 decimal_value_of text = if is_decimal text && nat_le (digits_value 10 text) 4294967295 then Some (digits_value 10 text) else None
 
--- the command of this name, of those that take no NUMBER
-abbrev pub command_named : List ℕ → Option Command
-command_named word =
-    if bytes_eq word (codes "check") then Some Check
-    else if bytes_eq word (codes "show") then Some Show
-    else if bytes_eq word (codes "elements") then Some Elements
-    else if bytes_eq word (codes "run") then Some Run
-    else if bytes_eq word (codes "settle") then Some Settle
-    else None
+-- the command of this name among the rows, of those that take no NUMBER
+abbrev pub named_in : List CommandRow → List ℕ → Option Command
+named_in [] word = None
+named_in (alone name command ∷ rows) word = if bytes_eq word name then Some command else named_in rows word
+named_in (with_number name command ∷ rows) word = named_in rows word
 
--- the command of this name with this NUMBER: `gen` alone takes one
+-- the command of this name among the rows with this NUMBER, of those that take one
+abbrev pub numbered_in : List CommandRow → List ℕ → List ℕ → Option Command
+numbered_in [] word number = None
+numbered_in (alone name command ∷ rows) word number = numbered_in rows word number
+numbered_in (with_number name command ∷ rows) word number =
+    if bytes_eq word name then option_map command (decimal_value_of number) else numbered_in rows word number
+
+abbrev pub command_named : List ℕ → Option Command
+command_named word = named_in command_rows word
+
 abbrev pub command_with : List ℕ → List ℕ → Option Command
-command_with word number = if bytes_eq word (codes "gen") then option_map Gen (decimal_value_of number) else None
+command_with word number = numbered_in command_rows word number
 
 abbrev pub command_of : List ℕ → Option (List ℕ) → Option Command
 command_of word None = command_named word

@@ -1,11 +1,11 @@
 use Rattle.std.proofs.Common.{sym, ◌∙◌}
-use Rattle.uac_describe.specs.Outcome.{no_memory, outcome_of}
-use Rattle.uac_scripts.specs.ScriptRun.{usage}
-use Rattle.uac_describe.proofs.AnsweredLemmas.{closes_memory}
-use Rattle.uac_describe.proofs.HandingOnLemmas.{faultless_on, status_before}
-use Rattle.uac_call.proofs.CallLemmas.{done_call, usage_call, unread_call, read_to_end, ok_is_no_write, read_is_no_write}
+use Rattle.uac_ends.specs.Outcome.{no_memory}
+use Rattle.uac_ends.proofs.ClosingLemmas.{closes_memory}
+use Rattle.uac_ends.proofs.HandingOnLemmas.{faultless_on, status_before}
+use Rattle.uac_call.specs.Call.{usage}
+use Rattle.uac_call.proofs.CallLemmas.{done_call, closes_usage, usage_call, unread_call, read_to_end, ok_is_no_write, read_is_no_write}
 use Rattle.uac_call.proofs.CallLemmas.{usage_refuses, memory_refuses, refused_cause, refused_unread, refused_faultless, refused_end}
-use Rattle.uac_call.proofs.CompletenessLemmas.{done_whole}
+use Rattle.uac_call.proofs.CompletenessLemmas.{call_whole}
 use Rattle.uac_call.proofs.CallHandingOnLemmas.{call_on, write_fault_on}
 use Rattle.uac_call.proofs.top.uac_main.Goals as goal
 
@@ -13,8 +13,8 @@ use Rattle.uac_call.proofs.top.uac_main.Goals as goal
 
 pub returns-in-Ok-clause-call : goal.returns-in-Ok-clause-call
 returns-in-Ok-clause-call g c =
-    call_on _ _ _ _ _ _ _ _ c.hand_on.ensures.kept c.hand_on.ensures.ends _ _ _ _ _ _ _
-    (done_call _ _ _ _ _ _ _ _ _ _ _ _ _ c.in-Ok.ensures.plainly c.perform-status.ensures.done)
+    call_on _ _ _ _ _ _ _ c.hand_on.ensures.kept c.hand_on.ensures.ends _ _ _ _
+    (done_call _ _ _ _ _ c.in-Ok.ensures.plainly c.perform-status.ensures.done)
 
 pub returns-in-Ok-clause-read_fault : goal.returns-in-Ok-clause-read_fault
 returns-in-Ok-clause-read_fault g c is =
@@ -22,11 +22,11 @@ returns-in-Ok-clause-read_fault g c is =
 
 pub returns-in-Ok-clause-write_fault : goal.returns-in-Ok-clause-write_fault
 returns-in-Ok-clause-write_fault g c =
-    write_fault_on _ _ _ _ _ _ _ _ _ _ _ _ _ _ c.hand_on.ensures.ends
-    (done_call _ _ _ _ _ _ _ _ _ _ _ _ _ c.in-Ok.ensures.plainly c.perform-status.ensures.done) c.perform-status.ensures.write_fault
+    write_fault_on _ _ _ _ _ _ c.hand_on.ensures.ends
+    (done_call _ _ _ _ _ c.in-Ok.ensures.plainly c.perform-status.ensures.done) c.perform-status.ensures.write_fault
 
 pub returns-in-Ok-clause-faultless : goal.returns-in-Ok-clause-faultless
-returns-in-Ok-clause-faultless g c = faultless_on _ _ _ _ _ _ _ c.hand_on.ensures.ends c.perform-status.ensures.faultless
+returns-in-Ok-clause-faultless g c = faultless_on _ _ _ _ _ _ _ _ _ c.hand_on.ensures.ends c.perform-status.ensures.faultless
 
 pub returns-in-Ok-clause-ok : goal.returns-in-Ok-clause-ok
 returns-in-Ok-clause-ok g c is reads =
@@ -34,8 +34,7 @@ returns-in-Ok-clause-ok g c is reads =
     (sym (status_before _ _ _ _ c.hand_on.ensures.ends (ok_is_no_write _ is)) ∙ is) reads
 
 pub returns-in-Ok-clause-complete : goal.returns-in-Ok-clause-complete
-returns-in-Ok-clause-complete g c =
-    done_whole _ _ _ _ _ _ _ _ _ _ _ _ (returns-in-Ok-clause-call g c) (returns-in-Ok-clause-write_fault g c)
+returns-in-Ok-clause-complete g c = call_whole _ _ _ _ (returns-in-Ok-clause-call g c) (returns-in-Ok-clause-write_fault g c)
 
 pub returns-in-Ok-clause-handed_on : goal.returns-in-Ok-clause-handed_on
 returns-in-Ok-clause-handed_on g c = c.hand_on.ensures.handed_on
@@ -44,31 +43,30 @@ returns-in-Ok-clause-handed_on g c = c.hand_on.ensures.handed_on
 
 pub returns-in-Err-Usage-clause-call : goal.returns-in-Err-Usage-clause-call
 returns-in-Err-Usage-clause-call g c =
-    usage_call _ _ _ _ _ _ _ _ _ _ c.in-Err-Usage.field-0-is c.in-Err-Usage.ensures.plainly c.conclude.ensures.closed
+    usage_call _ _ _ _ _ _ _ _ _ _ c.in-Err-Usage.field-0-is c.in-Err-Usage.ensures.plainly (closes_usage _ _ _ _ _ c.conclude.ensures.closed)
 
 pub returns-in-Err-Usage-clause-read_fault : goal.returns-in-Err-Usage-clause-read_fault
 returns-in-Err-Usage-clause-read_fault g c =
     refused_unread usage usage_refuses (g.K.Sink.written c.args.sink.now) (g.K.Sink.written c.conclude.new.sink)
-    (g.K.Sink.faults c.args.sink.now) (g.K.Sink.faults c.conclude.new.sink) c.conclude.result c.conclude.ensures.closed _
+    (g.K.Sink.faults c.args.sink.now) (g.K.Sink.faults c.conclude.new.sink) c.conclude.result (closes_usage _ _ _ _ _ c.conclude.ensures.closed) _
 
 pub returns-in-Err-Usage-clause-write_fault : goal.returns-in-Err-Usage-clause-write_fault
 returns-in-Err-Usage-clause-write_fault g c =
     refused_cause usage usage_refuses (g.K.Sink.written c.args.sink.now) (g.K.Sink.written c.conclude.new.sink)
-    (g.K.Sink.faults c.args.sink.now) (g.K.Sink.faults c.conclude.new.sink) c.conclude.result c.conclude.ensures.closed
+    (g.K.Sink.faults c.args.sink.now) (g.K.Sink.faults c.conclude.new.sink) c.conclude.result (closes_usage _ _ _ _ _ c.conclude.ensures.closed)
 
 pub returns-in-Err-Usage-clause-faultless : goal.returns-in-Err-Usage-clause-faultless
 returns-in-Err-Usage-clause-faultless g c =
     refused_faultless usage usage_refuses (g.K.Sink.written c.args.sink.now) (g.K.Sink.written c.conclude.new.sink)
-    (g.K.Sink.faults c.args.sink.now) (g.K.Sink.faults c.conclude.new.sink) c.conclude.result c.conclude.ensures.closed _
+    (g.K.Sink.faults c.args.sink.now) (g.K.Sink.faults c.conclude.new.sink) c.conclude.result (closes_usage _ _ _ _ _ c.conclude.ensures.closed) (g.S.Source.left c.args.source.now) _
 
 pub returns-in-Err-Usage-clause-ok : goal.returns-in-Err-Usage-clause-ok
 returns-in-Err-Usage-clause-ok g c =
     refused_end usage usage_refuses (g.K.Sink.written c.args.sink.now) (g.K.Sink.written c.conclude.new.sink)
-    (g.K.Sink.faults c.args.sink.now) (g.K.Sink.faults c.conclude.new.sink) c.conclude.result c.conclude.ensures.closed _ _
+    (g.K.Sink.faults c.args.sink.now) (g.K.Sink.faults c.conclude.new.sink) c.conclude.result (closes_usage _ _ _ _ _ c.conclude.ensures.closed) _ _
 
 pub returns-in-Err-Usage-clause-complete : goal.returns-in-Err-Usage-clause-complete
-returns-in-Err-Usage-clause-complete g c =
-    done_whole _ _ _ _ _ _ _ _ _ _ _ _ (returns-in-Err-Usage-clause-call g c) (returns-in-Err-Usage-clause-write_fault g c)
+returns-in-Err-Usage-clause-complete g c = call_whole _ _ _ _ (returns-in-Err-Usage-clause-call g c) (returns-in-Err-Usage-clause-write_fault g c)
 
 pub returns-in-Err-Usage-clause-handed_on : goal.returns-in-Err-Usage-clause-handed_on
 returns-in-Err-Usage-clause-handed_on g c = c.conclude.ensures.handed_on
@@ -80,31 +78,30 @@ returns-in-Err-NoMemory-clause-call g c = unread_call _ _ _ _ _ _ _ _ _ (closes_
 
 pub returns-in-Err-NoMemory-clause-read_fault : goal.returns-in-Err-NoMemory-clause-read_fault
 returns-in-Err-NoMemory-clause-read_fault g c =
-    refused_unread (outcome_of no_memory) memory_refuses (g.K.Sink.written c.args.sink.now) (g.K.Sink.written c.conclude-in-Err-NoMemory.new.sink)
+    refused_unread no_memory memory_refuses (g.K.Sink.written c.args.sink.now) (g.K.Sink.written c.conclude-in-Err-NoMemory.new.sink)
     (g.K.Sink.faults c.args.sink.now) (g.K.Sink.faults c.conclude-in-Err-NoMemory.new.sink)
     c.conclude-in-Err-NoMemory.result (closes_memory _ _ _ _ _ c.conclude-in-Err-NoMemory.ensures.closed) _
 
 pub returns-in-Err-NoMemory-clause-write_fault : goal.returns-in-Err-NoMemory-clause-write_fault
 returns-in-Err-NoMemory-clause-write_fault g c =
-    refused_cause (outcome_of no_memory) memory_refuses (g.K.Sink.written c.args.sink.now) (g.K.Sink.written c.conclude-in-Err-NoMemory.new.sink)
+    refused_cause no_memory memory_refuses (g.K.Sink.written c.args.sink.now) (g.K.Sink.written c.conclude-in-Err-NoMemory.new.sink)
     (g.K.Sink.faults c.args.sink.now) (g.K.Sink.faults c.conclude-in-Err-NoMemory.new.sink)
     c.conclude-in-Err-NoMemory.result (closes_memory _ _ _ _ _ c.conclude-in-Err-NoMemory.ensures.closed)
 
 pub returns-in-Err-NoMemory-clause-faultless : goal.returns-in-Err-NoMemory-clause-faultless
 returns-in-Err-NoMemory-clause-faultless g c =
-    refused_faultless (outcome_of no_memory) memory_refuses (g.K.Sink.written c.args.sink.now) (g.K.Sink.written c.conclude-in-Err-NoMemory.new.sink)
+    refused_faultless no_memory memory_refuses (g.K.Sink.written c.args.sink.now) (g.K.Sink.written c.conclude-in-Err-NoMemory.new.sink)
     (g.K.Sink.faults c.args.sink.now) (g.K.Sink.faults c.conclude-in-Err-NoMemory.new.sink)
-    c.conclude-in-Err-NoMemory.result (closes_memory _ _ _ _ _ c.conclude-in-Err-NoMemory.ensures.closed) _
+    c.conclude-in-Err-NoMemory.result (closes_memory _ _ _ _ _ c.conclude-in-Err-NoMemory.ensures.closed) (g.S.Source.left c.args.source.now) _
 
 pub returns-in-Err-NoMemory-clause-ok : goal.returns-in-Err-NoMemory-clause-ok
 returns-in-Err-NoMemory-clause-ok g c =
-    refused_end (outcome_of no_memory) memory_refuses (g.K.Sink.written c.args.sink.now) (g.K.Sink.written c.conclude-in-Err-NoMemory.new.sink)
+    refused_end no_memory memory_refuses (g.K.Sink.written c.args.sink.now) (g.K.Sink.written c.conclude-in-Err-NoMemory.new.sink)
     (g.K.Sink.faults c.args.sink.now) (g.K.Sink.faults c.conclude-in-Err-NoMemory.new.sink)
     c.conclude-in-Err-NoMemory.result (closes_memory _ _ _ _ _ c.conclude-in-Err-NoMemory.ensures.closed) _ _
 
 pub returns-in-Err-NoMemory-clause-complete : goal.returns-in-Err-NoMemory-clause-complete
-returns-in-Err-NoMemory-clause-complete g c =
-    done_whole _ _ _ _ _ _ _ _ _ _ _ _ (returns-in-Err-NoMemory-clause-call g c) (returns-in-Err-NoMemory-clause-write_fault g c)
+returns-in-Err-NoMemory-clause-complete g c = call_whole _ _ _ _ (returns-in-Err-NoMemory-clause-call g c) (returns-in-Err-NoMemory-clause-write_fault g c)
 
 pub returns-in-Err-NoMemory-clause-handed_on : goal.returns-in-Err-NoMemory-clause-handed_on
 returns-in-Err-NoMemory-clause-handed_on g c = c.conclude-in-Err-NoMemory.ensures.handed_on

@@ -3,10 +3,12 @@ use Rattle.std.proofs.Common.{◌≡◌, ℕ, refl, ap, subst, ◌∙◌, map, L
 use Rattle.uac_units.specs.Hearing.{Reading}
 use Rattle.uac_units.specs.declared.meter.MeterKind.TheVariants.{Peak, Clipped, Sum}
 use Rattle.uac_words.specs.declared.commands.Invocation.{Invocation}
-use Rattle.uac_describe.specs.declared.status.Status.{Status}
+use Rattle.uac_ends.specs.declared.status.Status.{Status}
+use Rattle.uac_ends.specs.Outside.{Outside}
+use Rattle.uac_scripts.specs.Surroundings.{surroundings}
 use Rattle.uac_call.specs.Call.{IsCall}
-use Rattle.uac_cli.specs.Boxes.{IsFreshCall, fresh_readings}
 use Rattle.uac_call.specs.Completeness.{IsCompleteCall}
+use Rattle.uac_cli.specs.Boxes.{IsCompleteFreshCall, IsFreshCall, fresh_readings}
 use Rattle.uac_cli.proofs.boxes.run_with_racks.OwnLists as lists
 use Rattle.uac_cli.proofs.boxes.run_with_racks.Goals as goal
 
@@ -20,20 +22,18 @@ pushed {B} read l0 l1 l2 l3 a b c ra rb rc e0 e1 e2 e3 pa pb pc =
     ∙ ap (λ (x : Reading). ra ∷ rb ∷ x ∷ []) pc
 
 -- the meters had heard nothing
-from_fresh : (words : Option Invocation) (shown shown' : List Reading) (left left' : Option (List ℕ)) (reads reads' : ℕ) (written written' : Option (List ℕ)) (writes writes' : ℕ) (status : Status)
-    → shown ≡ fresh_readings → IsCall words shown shown' left left' reads reads' written written' writes writes' status
-    → IsFreshCall words left left' reads reads' written written' writes writes' status
-from_fresh words shown shown' left left' reads reads' written written' writes writes' status same call = record {
+from_fresh : (words : Option Invocation) (shown shown' : List Reading) (before after : Outside) (status : Status) → shown ≡ fresh_readings
+    → IsCall words (surroundings before shown) (surroundings after shown') status → IsFreshCall words before after status
+from_fresh words shown shown' before after status same call = record {
   shown' = shown';
-  call = subst (λ (s : List Reading). IsCall words s shown' left left' reads reads' written written' writes writes' status) same call;
+  call = subst (λ (s : List Reading). IsCall words (surroundings before s) (surroundings after shown') status) same call;
 }
 
 -- the same of what the whole input comes to
-whole_fresh : (words : Option Invocation) (shown : List Reading) (left : Option (List ℕ)) (reads reads' : ℕ) (written written' : Option (List ℕ)) (writes writes' : ℕ) (status : Status)
-    → shown ≡ fresh_readings → IsCompleteCall words shown left reads reads' written written' writes writes' status
-    → IsCompleteCall words fresh_readings left reads reads' written written' writes writes' status
-whole_fresh words shown left reads reads' written written' writes writes' status same complete =
-    subst (λ (s : List Reading). IsCompleteCall words s left reads reads' written written' writes writes' status) same complete
+whole_fresh : (words : Option Invocation) (shown shown' : List Reading) (before after : Outside) (status : Status) → shown ≡ fresh_readings
+    → IsCompleteCall words (surroundings before shown) (surroundings after shown') status → IsCompleteFreshCall words before after status
+whole_fresh words shown shown' before after status same complete =
+    subst (λ (s : List Reading). IsCompleteCall words (surroundings before s) (surroundings after shown') status) same complete
 
 pub returns-clause-run : goal.returns-clause-run
 returns-clause-run g c =
@@ -51,11 +51,11 @@ returns-clause-run g c =
     let fresh = c.new-meters.ensures ∙ pushed (λ b. (lists.own-2.entry b.vtable).1.reading_of b.value) c.new-list.result.items c.push.new.self.items c.push-2.new.self.items c.push-3.new.self.items c.into_dyn_box.result c.into_dyn_box-in_ok-new-2.result c.into_dyn_box-in_ok-new-3.result _ _ _
     c.new-list.ensures.items c.in_ok-push.ensures.items c.in_ok-push-2.ensures.items c.in_ok-push-3.ensures.items peak clipped sum in
     record {
-      call = from_fresh _ _ _ _ _ _ _ _ _ _ _ _ fresh c.uac_main.ensures.call;
+      call = from_fresh _ _ _ _ _ _ fresh c.uac_main.ensures.call;
       read_fault = c.uac_main.ensures.read_fault;
       write_fault = c.uac_main.ensures.write_fault;
       faultless = c.uac_main.ensures.faultless;
       ok = c.uac_main.ensures.ok;
-      complete = whole_fresh _ _ _ _ _ _ _ _ _ _ fresh c.uac_main.ensures.complete;
+      complete = whole_fresh _ _ _ _ _ _ fresh c.uac_main.ensures.complete;
       handed_on = c.uac_main.ensures.handed_on;
     }

@@ -1,7 +1,8 @@
 use Rattle.std.proofs.Common.{subst, sym}
 use Rattle.uac_descriptor.specs.WellFormed.{AreWellFormed}
-use Rattle.uac_describe.specs.Outcome.{outcome_of, read_fault}
-use Rattle.uac_describe.proofs.AnsweredLemmas.{judged_run, refused_run, failed_run, closes_faultless, closes_read_fault, told_status, refuses_faultless}
+use Rattle.uac_ends.specs.Outcome.{read_fault}
+use Rattle.uac_ends.proofs.ClosingLemmas.{closes_faultless, closes_read_fault, told_status}
+use Rattle.uac_describe.proofs.AnsweredLemmas.{judged_run, refused_run, failed_run, refuses_faultless}
 use Rattle.uac_describe.proofs.describing.describe.Goals as goal
 
 pub returns-in-Whole-clause-answered : goal.returns-in-Whole-clause-answered
@@ -29,7 +30,7 @@ returns-in-Stopped-clause-faultless g c = λ unread unwritten. (
 
 pub returns-in-Failed-clause-faultless : goal.returns-in-Failed-clause-faultless
 returns-in-Failed-clause-faultless g c = λ unread unwritten.
-    absurd (told_status (outcome_of read_fault) (g.K.Sink.written c.args.sink.now) (g.K.Sink.written c.close.new.sink) (g.K.Sink.faults c.args.sink.now) (g.K.Sink.faults c.close.new.sink) c.close.result
+    absurd (told_status read_fault (g.K.Sink.written c.args.sink.now) (g.K.Sink.written c.close.new.sink) (g.K.Sink.faults c.args.sink.now) (g.K.Sink.faults c.close.new.sink) c.close.result
     (closes_read_fault _ _ _ _ _ c.close.ensures) unread unwritten)
 
 pub judge-requires : goal.judge-requires

@@ -1,5 +1,0 @@
-use Rattle.uac_describe.proofs.HandingOnLemmas.{closes_on}
-use Rattle.uac_describe.proofs.closing.conclude.Goals as goal
-
-pub returns-clause-closed : goal.returns-clause-closed
-returns-clause-closed g c = closes_on _ _ _ _ _ _ _ _ _ c.hand_on.ensures.kept c.hand_on.ensures.ends c.close-status.ensures
