@@ -2,8 +2,9 @@
 
 What an audio request is answered, and what a stream carries, is the program's alone."""
 import os, re, struct
-from controls import control_of, service_of
+from controls import control_of
 from descriptor import cut, entities_of, settings_of
+from formats import formats_of
 from program import answer_once, lines_of_descriptor
 from tool import Refused
 from usbip import HIGH_SPEED, Record
@@ -25,25 +26,6 @@ def name_of(path):
     folder, name = os.path.split(os.path.abspath(path))
     name = os.path.basename(folder) if name == "descriptors" else name.rpartition(".")[0] or name
     return re.sub(r"[^A-Za-z0-9._-]", "_", name)[:60]
-
-
-class Format:
-    """What a setting carries: its interface, direction, terminal, clock, channels, bytes and bits of a sample, and its endpoints."""
-
-    def __init__(self, setting, terminal):
-        general, kind, ends = setting["general"], setting["type_one"], setting["endpoint"]
-        self.interface, self.setting = setting["number"], setting["setting"]
-        self.is_out, self.terminal, self.clock = terminal.kind == "input_terminal", terminal["id"], terminal["clock"]
-        self.channels, self.subslot, self.bits = general["channels"], kind["subslot"], kind["bits"]
-        self.frame = self.channels * self.subslot
-        self.data, self.period, self.room = ends[0]["address"], service_of(ends[0]), ends[0]["max_packet"] & 0x7FF
-        self.room *= 1 + (ends[0]["max_packet"] >> 11 & 3)
-        self.feedback = ends[1]["address"] if len(ends) > 1 else None
-        self.report_period = service_of(ends[1]) if len(ends) > 1 else 0
-
-    def in_words(self):
-        channels = f"{self.channels} channel" + ("" if self.channels == 1 else "s")
-        return f"{'to' if self.is_out else 'from'} the device, {channels} of {self.bits} bits"
 
 
 class Device:
@@ -76,17 +58,11 @@ class Device:
         self.audio = {self.control, *self.streaming}
 
     def read_formats(self):
-        self.formats, self.settings, self.endpoints = {}, settings_of(self.blocks), set()
-        for block in self.blocks:
-            # Blocks of foreign interfaces are known by their bytes alone.
-            if len(block.data) >= 3 and block.data[1] == 5:
-                self.endpoints.add(block.data[2])
-        self.of_streams = {end["address"] for setting in self.settings for end in setting["endpoint"]}
-        for setting in self.settings:
-            terminal = self.entities.get(setting.get("general") and setting["general"]["link"])
-            is_whole = terminal is not None and setting.get("type_one") is not None and setting["endpoint"]
-            if is_whole and terminal.kind in ("input_terminal", "output_terminal") and setting["endpoint"][0]["interval"] <= 4:
-                self.formats[setting["number"], setting["setting"]] = Format(setting, terminal)
+        """What streams carry, and the addresses of endpoints: of all, and of the streams'."""
+        self.formats = formats_of(self.configuration)
+        # Blocks of foreign interfaces are known by their bytes alone.
+        self.endpoints = {block.data[2] for block in self.blocks if len(block.data) >= 3 and block.data[1] == 5}
+        self.of_streams = {end["address"] for setting in settings_of(self.blocks) for end in setting["endpoint"]}
 
     def read_program(self):
         """What the program says of it: elements with their values, domains, and the settings that can't run at the start."""

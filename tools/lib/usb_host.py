@@ -2,8 +2,7 @@
 
 It reads the device as any host does, and is used by tests; nothing here knows the program."""
 import random, time
-from descriptor import cut, entities_of, settings_of
-from device import Format
+from descriptor import cut
 from usbip import DONE
 
 # Transfers that are handed in at once, and the packets of each.
@@ -19,17 +18,6 @@ def read_device(host):
     _, configuration = host.control(b"\x80\x06\x00\x02\0\0" + total.to_bytes(2, "little"))
     host.control(b"\0\x09" + configuration[5:6] + bytes(5))
     return device, configuration
-
-
-def formats_of(configuration):
-    """The settings that a host can run, by interface and setting."""
-    blocks, found = cut(configuration)[0], {}
-    entities = entities_of(blocks)
-    for setting in settings_of(blocks):
-        terminal = entities.get(setting.get("general") and setting["general"]["link"])
-        if terminal is not None and setting.get("type_one") is not None and setting["endpoint"]:
-            found[setting["number"], setting["setting"]] = Format(setting, terminal)
-    return found
 
 
 def control_interface(configuration):

@@ -1,6 +1,6 @@
 """A host's visit: from the import of a device to its end, over one connection, with a run of the program behind it."""
 import collections, select, time
-from bus import LONGEST_END, MICROFRAMES, TURN, Bus, nominal_of
+from bus import LONGEST_END, MICROFRAMES, TURN, Bus
 from device import GET_INTERFACE, SET_CONFIGURATION, SET_INTERFACE
 from host_pace import HostPace
 from program import Program, Stopped, lines_of_descriptor
