@@ -1,5 +1,5 @@
 """What a test needs besides Python and the program as it is: a test that lacks it is skipped, and counted as skipped, by name."""
-import functools, importlib.util, os, shutil, subprocess
+import functools, os, shutil, subprocess
 
 TOP = os.path.dirname(os.path.dirname(os.path.abspath(__file__)))
 # The built program; the environment may name another, as a build that stands elsewhere.
@@ -30,6 +30,4 @@ def why_missing(need):
         return None if told.startswith(front) else f"the program isn't built for {need} yet"
     if need == "settings":
         return None if "\nstream " in answer(["show"], headset) else "show has no lines of settings yet"
-    if need == "matplotlib":
-        return None if importlib.util.find_spec("matplotlib") else "python3-matplotlib isn't installed"
     return None if shutil.which(need) else f"{need} isn't installed"

@@ -72,13 +72,22 @@ def range_of(block, control):
     return others.get(control.name, "0, 1")
 
 
-def rates_of(block, by_id, depth=0):
-    """The rates that a clock entity can be brought to by the controls that a host may set; a selector's are those of its pins."""
-    if block is None or depth > len(by_id):
+def rates_of(block, by_id, known=None):
+    """The rates that a clock entity can be brought to by the controls that a host may set; a selector's are those of its pins. Known are
+    those of clock entities that were found already, by their ids."""
+    known = {} if known is None else known
+    if block is None:
         return set()
+    if block["id"] not in known:
+        known[block["id"]] = set()
+        known[block["id"]] = rates_behind(block, by_id, known)
+    return known[block["id"]]
+
+
+def rates_behind(block, by_id, known):
     if block.kind == "clock_source":
         return set(source_rates(block)) if is_programmable(block, 1) else {START_RATE}
-    behind = [rates_of(by_id.get(name), by_id, depth + 1) for name in block.sources]
+    behind = [rates_of(by_id.get(name), by_id, known) for name in block.sources]
     if block.kind == "clock_selector":
         return set().union(*behind) if is_programmable(block, 1) else behind[0]
     above = range(1, 9) if is_programmable(block, 1) else (1,)
@@ -104,27 +113,60 @@ def service_of(endpoint):
 def why_format(setting, channels):
     """Why no rate runs with a setting's format, None where nothing speaks against it."""
     general, form = setting.get("general"), setting.get("type_one")
-    if general is None or form is None or general["format_type"] != 1 or not general["formats"] & 1:
-        return "its format isn't Type I PCM"
-    return None if general["channels"] == channels else f"it has {general['channels']} channels and its terminal {channels}"
+    if general is None:
+        return "it has no General, which says its format"
+    if general["format_type"] != 1:
+        return f"its format type is {general['format_type']}, and type 1 runs here"
+    if not general["formats"] & 1:
+        return f"bmFormats is {general['formats']:#010x}, and PCM, its bit 0, runs here"
+    if form is None:
+        return "no Type I block says the bytes and bits of its samples"
+    count = general["channels"]
+    return None if count == channels else f"its General has {count} channel{'' if count == 1 else 's'} and its terminal {channels}"
+
+
+SYNCHRONIZATIONS = ("none", "asynchronous", "adaptive", "synchronous")
 
 
 def why_endpoints(setting, is_out):
     """Why no rate runs on a setting's endpoints, None where nothing speaks against it."""
     ends = setting["endpoint"]
-    if not ends or ends[0]["attributes"] >> 2 & 3 != 1:
-        return "its first endpoint isn't asynchronous"
+    if not ends:
+        return "it has no endpoint"
+    kind = SYNCHRONIZATIONS[ends[0]["attributes"] >> 2 & 3]
+    if kind != "asynchronous":
+        return (f"its first endpoint says {'no synchronization' if kind == 'none' else kind} (bmAttributes {ends[0]['attributes']:#04x}), "
+                f"and asynchronous ones run here ({ends[0]['attributes'] & 0xF3 | 4:#04x})")
     if ends[0]["interval"] > 4:
-        return "its packets come less often than every 8 microframes"
+        return f"it has a packet in {service_of(ends[0])} microframes (bInterval {ends[0]['interval']}), and at least one in 8 runs here"
     if not is_out:
-        return "it has a second endpoint" if len(ends) > 1 else None
+        return "it has a second endpoint, and a stream from the device has one" if len(ends) > 1 else None
     if ends[0]["attributes"] >> 4 & 3 != 0:
-        return "its first endpoint carries feedback data"
+        return "its first endpoint carries data that is feedback, and it leads to the device"
     if len(ends) < 2:
         return "it has no feedback endpoint"
-    if not ends[0]["interval"] <= ends[1]["interval"] <= 4:
-        return "its reports come more often than its packets, or less often than every 8 microframes"
-    return "its feedback endpoint has less than 4 bytes" if ends[1]["max_packet"] & 0x7FF < 4 else None
+    if ends[1]["interval"] > 4:
+        return f"it has a report in {service_of(ends[1])} microframes (bInterval {ends[1]['interval']}), and at least one in 8 runs here"
+    if ends[1]["interval"] < ends[0]["interval"]:
+        return "its reports come more often than its packets"
+    size = ends[1]["max_packet"] & 0x7FF
+    return f"its feedback endpoint has {size} byte{'' if size == 1 else 's'}, and a report has 4" if size < 4 else None
+
+
+def wanted_frames(rate, first):
+    """The frames for which a packet has to have room at a rate, and how many an asynchronous device sends at most."""
+    count = service_of(first)
+    return count * MOST_FRAMES[rate], count * rate // 8000 + 1
+
+
+def too_small(first, frame, rates):
+    """That a packet has no room at the rates that its clock gives, with what each of them wants."""
+    count, room = service_of(first), room_of(first)
+    over = "a microframe" if count == 1 else f"{count} microframes"
+    wants = [(rate, *wanted_frames(rate, first)) for rate in sorted(rates)]
+    told = "; ".join(f"{rate:,} Hz over {over} wants {most} here, where an asynchronous device sends at most {sent}" if at == 0 else
+                     f"{rate:,} Hz wants {most} ({sent})" for at, (rate, most, sent) in enumerate(wants))
+    return f"a packet of {room} bytes holds {room // frame} frames; {told}"
 
 
 def running_rates(setting, blocks, channels):
@@ -137,9 +179,7 @@ def running_rates(setting, blocks, channels):
     first, frame = setting["endpoint"][0], channels * setting["type_one"]["subslot"]
     fits = [rate for rate in RATES if service_of(first) * MOST_FRAMES[rate] * frame <= room_of(first)]
     given = rates_of(by_id.get(terminal["clock"]), by_id)
-    if not fits:
-        least = service_of(first) * MOST_FRAMES[RATES[0]]
-        return (), (), f"its packets hold {room_of(first) // frame} frames, and {RATES[0]} Hz needs {least}"
     both = [rate for rate in fits if rate in given]
-    named = " and ".join(str(rate) for rate in sorted(given))
-    return fits, both, None if both else f"its packets are too small for {named} Hz, which its clock gives"
+    if both:
+        return fits, both, None
+    return fits, both, too_small(first, frame, given) if given else "its clock gives none of the twelve rates"

@@ -38,6 +38,31 @@ LOCATIONS = ("front left, front right, front center, low frequency, back left, b
              "left low frequency, right low frequency, top side left, top side right, bottom center, back left of center, "
              "back right of center").split(", ")
 
+# The standard's names of the fields, where a kind has no other of its own.
+STANDARD_NAMES = {
+    "length": "bLength", "type": "bDescriptorType", "subtype": "bDescriptorSubtype", "total": "wTotalLength",
+    "interfaces": "bNumInterfaces", "value": "bConfigurationValue", "attributes": "bmAttributes", "power": "bMaxPower",
+    "first": "bFirstInterface", "count": "bInterfaceCount", "number": "bInterfaceNumber", "setting": "bAlternateSetting",
+    "endpoints": "bNumEndpoints",
+    "address": "bEndpointAddress", "max_packet": "wMaxPacketSize", "interval": "bInterval", "version": "bcdADC", "category": "bCategory",
+    "controls": "bmControls", "id": "bUnitID", "terminal_type": "wTerminalType", "assoc": "bAssocTerminal", "clock": "bCSourceID",
+    "source": "bSourceID", "sources": "baSourceID", "pins": "bNrInPins", "channels": "bNrChannels", "locations": "bmChannelConfig",
+    "names": "iChannelNames", "mix_bits": "bmMixerControls", "words": "bmaControls", "effect_type": "wEffectType", "link": "bTerminalLink",
+    "format_type": "bFormatType", "formats": "bmFormats", "subslot": "bSubslotSize", "bits": "bBitResolution",
+    "lock_units": "bLockDelayUnits", "lock_delay": "wLockDelay", "release": "bcdUSB", "class": "bDeviceClass",
+    "subclass": "bDeviceSubClass", "protocol": "bDeviceProtocol", "packet": "bMaxPacketSize0", "vendor": "idVendor",
+    "product": "idProduct", "manufacturer": "iManufacturer", "product_name": "iProduct", "serial": "iSerialNumber",
+    "configurations": "bNumConfigurations"}
+OWN_NAMES = {
+    "configuration": {"name": "iConfiguration"}, "interface": {"name": "iInterface", "class": "bInterfaceClass",
+                                                               "subclass": "bInterfaceSubClass", "protocol": "bInterfaceProtocol"},
+    "association": {"name": "iFunction", "class": "bFunctionClass", "subclass": "bFunctionSubClass", "protocol": "bFunctionProtocol"},
+    "input_terminal": {"id": "bTerminalID", "name": "iTerminal"}, "output_terminal": {"id": "bTerminalID", "name": "iTerminal"},
+    "mixer": {"name": "iMixer"}, "selector": {"name": "iSelector"}, "feature": {"name": "iFeature"}, "effect": {"name": "iEffects"},
+    "clock_source": {"id": "bClockID", "name": "iClockSource"},
+    "clock_selector": {"id": "bClockID", "sources": "baCSourceID", "name": "iClockSelector"},
+    "clock_multiplier": {"id": "bClockID", "source": "bCSourceID", "name": "iClockMultiplier"}, "device": {"version": "bcdDevice"}}
+
 
 class Block:
     def __init__(self, place, data, kind):
@@ -51,6 +76,35 @@ class Block:
     def sources(self):
         one = self["source"]
         return self["sources"] if one is None else [one]
+
+    def span(self, name):
+        """Where a field stands in the block, also `length`, `type` and `subtype`, or one of a list as `words[1]`; None where it doesn't."""
+        fixed = {"length": (0, 1), "type": (1, 2), "subtype": (2, 3)}
+        if name in fixed:
+            return fixed[name]
+        name, _, index = name.partition("[")
+        for field, value, at, end in self.fields:
+            if field == name and index and isinstance(value, list):
+                size = 4 if name == "words" else 1
+                begin = at + int(index[:-1]) * size
+                return begin, begin + size
+            if field == name:
+                return at, end
+        return None
+
+    def value(self, name):
+        """The number in a field, as its span has it."""
+        span = self.span(name)
+        return None if span is None else little(self.data[span[0]:span[1]])
+
+
+def standard_name(kind, field):
+    """What the standard calls a field, as `wTotalLength`; one of a list as `baSourceID(2)`, counted from 1, or `bmaControls(0)`."""
+    name, _, index = field.partition("[")
+    called = OWN_NAMES.get(kind, {}).get(name) or STANDARD_NAMES.get(name, name)
+    if not index:
+        return called
+    return f"{called}({int(index[:-1]) + (0 if name == 'words' else 1)})"
 
 
 def little(data):

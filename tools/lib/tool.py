@@ -1,5 +1,6 @@
-"""What the tools share: their words, input and output, the program that they ask, and the rules' sentences, which stand once, in docs/."""
-import os, re, subprocess, sys
+"""What the tools share: their words, input and output, and the program that they ask. The rules' sentences stand in rules.py."""
+import functools, glob, os, subprocess, sys
+from rules import RULES
 
 TOP = os.path.dirname(os.path.dirname(os.path.dirname(os.path.abspath(__file__))))
 # The program that is asked; the environment may name another, as a build that stands elsewhere.
@@ -65,12 +66,37 @@ def write_output(name, data, force):
         raise Refused(f"{name} can't be written ({why.strerror})")
 
 
+def is_built():
+    """Whether the program is built and no source is newer, as ./uac_cli judges it."""
+    folder = os.path.join(TOP, "crates/uac_cli/out")
+    stamp = os.path.join(folder, "launcher.stamp")
+    if not os.access(os.path.join(folder, "uac_cli"), os.X_OK) or not os.path.exists(stamp):
+        return False
+    since, sources = os.stat(stamp).st_mtime_ns, [os.path.join(TOP, "crates.txt")]
+    for part in ("src", "specs", "proofs"):
+        for top, folders, files in (found for crate in glob.glob(os.path.join(TOP, "crates/*", part)) for found in os.walk(crate)):
+            sources += [os.path.join(top, name) for name in ["."] + folders + files]
+    return all(os.lstat(path).st_mtime_ns <= since for path in sources)
+
+
+@functools.lru_cache(None)
+def program():
+    """The program that is asked: the one that the environment names, or ./uac_cli where asking it builds nothing."""
+    if os.environ.get("UAC_CLI"):
+        return os.environ["UAC_CLI"]
+    if not is_built():
+        raise Refused("the program isn't built, or is older than its sources: './uac_cli check < examples/minimal.bin' builds it, with "
+                      "every proof, which takes long; 'cd crates/uac_cli && rt try -- check < FILE' answers without proofs (and UAC_CLI "
+                      "in the environment may name a program that stands elsewhere)")
+    return PROGRAM
+
+
 def ask(command, data):
     """What the program answers: its lines and its status."""
     try:
-        done = subprocess.run([PROGRAM, command], input=data, stdout=subprocess.PIPE)
+        done = subprocess.run([program(), command], input=data, stdout=subprocess.PIPE)
     except OSError as why:
-        raise Refused(f"the program {PROGRAM} can't be run ({why.strerror})")
+        raise Refused(f"the program {program()} can't be run ({why.strerror})")
     if done.returncode == 70:
         raise Refused("the program could not be built; its own words stand above")
     return done.stdout.decode("ascii", errors="replace").splitlines(), done.returncode
@@ -87,36 +113,9 @@ def cells_of(line):
     return [cell.strip() for cell in line.strip().strip("|").split("|")]
 
 
-def rules_of_tables(name):
-    """The rules of a page that has them in a table, under 'In our own words'."""
-    found, column = {}, None
-    for line in page(name):
-        cells = cells_of(line)
-        if "In our own words" in cells:
-            column = cells.index("In our own words")
-        elif column is not None and re.match(r"[GUQS]\d", cells[0]) and len(cells) > column:
-            found.update({rule: cells[column] for rule in re.findall(r"[GUQS]\d+", cells[0])})
-        elif not line.startswith("|"):
-            column = None
-    return found
-
-
-def rules_in_bold(name):
-    """The rules of a page that has them in its sentences, as '**Q9** the value isn't legal;' or '**S1**: the line ..'."""
-    found = {}
-    for rule, sentence in re.findall(r"\*\*([QS]\d+)\*\*:? (.*?)(?:; (?=\*\*)|\.?$)", "\n".join(page(name)), re.MULTILINE):
-        found.setdefault(rule, sentence)
-    return found
-
-
 def rules():
     """Each rule's sentence, by its name."""
-    found = {}
-    for name in ("SCRIPT.md", "CONTROLS.md"):
-        found.update(rules_in_bold(name))
-    for name in ("DESCRIPTORS.md", "TOPOLOGY.md", "CONTROLS.md", "SCRIPT.md"):
-        found.update(rules_of_tables(name))
-    return found
+    return RULES
 
 
 def main_of(main, doc, trouble=1):

@@ -1,0 +1,13 @@
+pub mod BandsLemmas
+pub mod CarryLemmas
+pub mod FsPrintingLemmas
+pub mod ReportsLemmas
+pub mod RoomLemmas
+pub mod RunLemmas
+pub mod SumsLemmas
+pub mod TellingLemmas
+pub mod StepsLemmas
+pub mod WorldLemmas
+pub mod PromiseLemmas
+mod Worked
+mod WorkedBench
