@@ -6,7 +6,6 @@ use Rattle.uac_units.specs.Hearing.{Reading}
 use Rattle.uac_words.specs.declared.commands.Command.{Command}
 use Rattle.uac_words.specs.declared.commands.Command.TheVariants as commands
 use Rattle.uac_words.specs.declared.commands.Invocation.{Invocation}
-use Rattle.uac_rows.specs.BusWorld.{meters_in, start}
 use Rattle.uac_ends.specs.declared.status.Status.{Status}
 use Rattle.uac_ends.specs.declared.status.Status.TheVariants as statuses
 use Rattle.uac_ends.specs.Closing.{HasWriteCause, IsClosed}
@@ -14,27 +13,44 @@ use Rattle.uac_ends.specs.HandingOn.{HandsOn}
 use Rattle.uac_ends.specs.Outcome.{Outcome, no_memory}
 use Rattle.uac_ends.specs.Outside.{Outside, outside}
 use Rattle.uac_ends.proofs.ClosingLemmas.{closes_faultless}
-use Rattle.uac_ends.proofs.HandingOnLemmas.{closes_on}
+use Rattle.uac_ends.proofs.HandingOnLemmas.{closes_on, status_before}
 use Rattle.uac_describe.specs.declared.description.Description.{Description}
 use Rattle.uac_describe.specs.SettleLines.{settle_outcome}
 use Rattle.uac_runner.specs.Transcript as runner
-use Rattle.uac_runner.proofs.HandingOnLemmas.{run_on}
 use Rattle.uac_scripts.specs.BusMachine.{bus_machine}
 use Rattle.uac_scripts.specs.BusRun.{IsBusRun}
 use Rattle.uac_scripts.specs.Surroundings.{Surroundings, surroundings, with_source}
 use Rattle.uac_call.specs.Call.{AreAnswered, ComesOfCommand, Describes, IsCall, IsGenerated, PrintsAlone, usage}
+
+memory_is_no_write : (status : Status) → status ≡ statuses.NoMemory → status ≢ statuses.WriteFault
+memory_is_no_write status is other = absurd (cc (is, other))
 
 -- ---- what was to come
 
 module _ (shown : List Reading) (m w' : Option (List ℕ)) (g f' : ℕ) (status status' : Status) (kept : Keeps m w') (ends : HandsOn status g f' status') where
   bus_on : (before : Surroundings) (left : Option (List ℕ)) (reads : ℕ) → IsBusRun before (surroundings (outside left reads m g) shown) status
       → IsBusRun before (surroundings (outside left reads w' f') shown) status'
-  bus_on before left reads bus = record {
-    says = bus.says;
-    by_table = bus.by_table;
-    run = run_on (bus_machine bus.says) (start before.shown) (λ w. shown ≡ meters_in w) before.outer left reads m w' g f' status status' kept ends bus.run;
-    promised = bus.promised;
-  }
+  bus_on before left reads bus =
+      let m' = bus_machine bus.says in
+      let run = bus.run in
+      record {
+        says = bus.says;
+        by_table = bus.by_table;
+        run = record {
+          taken = run.taken;
+          end = run.end;
+          ending = run.ending;
+          consumed = run.consumed;
+          ended = run.ended;
+          prompt = run.prompt;
+          meant = run.meant;
+          lived = run.lived;
+          closed = closes_on (runner.outcome_of m' run.ending) before.outer.written m w' before.outer.writes g f' status status' kept ends run.closed;
+          wanted = (λ is. run.wanted (sym (status_before status status' g f' ends (memory_is_no_write status' is)) ∙ is));
+          shows = (λ other. run.shows (λ is. other (status_before status status' g f' ends other ∙ is)));
+        };
+        promised = bus.promised;
+      }
 
   prints_on : (outcome : Outcome) (before : Surroundings) (left : Option (List ℕ)) (reads : ℕ) → PrintsAlone outcome before (surroundings (outside left reads m g) shown) status
       → PrintsAlone outcome before (surroundings (outside left reads w' f') shown) status'

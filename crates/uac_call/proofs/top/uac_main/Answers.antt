@@ -1,5 +1,6 @@
 use Rattle.std.proofs.Common.{sym, ◌∙◌}
 use Rattle.uac_ends.specs.Outcome.{no_memory}
+use Rattle.uac_ends.specs.Outside.{outside}
 use Rattle.uac_ends.proofs.ClosingLemmas.{closes_memory}
 use Rattle.uac_ends.proofs.HandingOnLemmas.{faultless_on, status_before}
 use Rattle.uac_call.specs.Call.{usage}
@@ -26,11 +27,19 @@ returns-in-Ok-clause-write_fault g c =
     (done_call _ _ _ _ _ c.in-Ok.ensures.plainly c.perform-status.ensures.done) c.perform-status.ensures.write_fault
 
 pub returns-in-Ok-clause-faultless : goal.returns-in-Ok-clause-faultless
-returns-in-Ok-clause-faultless g c = faultless_on _ _ _ _ _ _ _ _ _ c.hand_on.ensures.ends c.perform-status.ensures.faultless
+returns-in-Ok-clause-faultless g c =
+    faultless_on (outside (g.S.Source.left c.args.source.now) (g.S.Source.faults c.args.source.now) (g.K.Sink.written c.args.sink.now) (g.K.Sink.faults c.args.sink.now))
+    (g.S.Source.left c.perform-status.new.source) (g.S.Source.faults c.perform-status.new.source)
+    (g.K.Sink.written c.perform-status.new.sink) (g.K.Sink.written c.hand_on.new.sink)
+    (g.K.Sink.faults c.perform-status.new.sink) (g.K.Sink.faults c.hand_on.new.sink) c.perform-status.result c.hand_on.result
+    c.hand_on.ensures.ends c.perform-status.ensures.faultless
 
 pub returns-in-Ok-clause-ok : goal.returns-in-Ok-clause-ok
 returns-in-Ok-clause-ok g c is reads =
-    read_to_end _ _ _ _ c.in-Ok.ensures.plainly c.perform-status.ensures.ok
+    read_to_end _ _
+    (outside (g.S.Source.left c.perform-status.new.source) (g.S.Source.faults c.perform-status.new.source)
+    (g.K.Sink.written c.perform-status.new.sink) (g.K.Sink.faults c.perform-status.new.sink)) _
+    c.in-Ok.ensures.plainly c.perform-status.ensures.ok
     (sym (status_before _ _ _ _ c.hand_on.ensures.ends (ok_is_no_write _ is)) ∙ is) reads
 
 pub returns-in-Ok-clause-complete : goal.returns-in-Ok-clause-complete
