@@ -4,7 +4,7 @@ use Rattle.uac_units.specs.Hearing.{Reading}
 use Rattle.uac_units.specs.declared.meter.MeterKind.TheVariants.{Peak, Clipped, Sum}
 use Rattle.uac_words.specs.declared.commands.Invocation.{Invocation}
 use Rattle.uac_ends.specs.declared.status.Status.{Status}
-use Rattle.uac_ends.specs.Outside.{Outside}
+use Rattle.uac_ends.specs.Outside.{Outside, outside}
 use Rattle.uac_scripts.specs.Surroundings.{surroundings}
 use Rattle.uac_call.specs.Call.{IsCall}
 use Rattle.uac_call.specs.Completeness.{IsCompleteCall}
@@ -56,6 +56,10 @@ returns-clause-run g c =
       write_fault = c.uac_main.ensures.write_fault;
       faultless = c.uac_main.ensures.faultless;
       ok = c.uac_main.ensures.ok;
-      complete = whole_fresh _ _ _ _ _ _ fresh c.uac_main.ensures.complete;
+      complete =
+          whole_fresh _ _ fresh_readings _
+          (outside (g.S.Source.left c.uac_main.new.source) (g.S.Source.faults c.uac_main.new.source)
+          (g.K.Sink.written c.uac_main.new.sink) (g.K.Sink.faults c.uac_main.new.sink))
+          _ fresh c.uac_main.ensures.complete;
       handed_on = c.uac_main.ensures.handed_on;
     }

@@ -1,4 +1,5 @@
 use Rattle.std.proofs.Common.{ap, refl}
+use Rattle.uac_ends.specs.Outside.{outside}
 use Rattle.uac_ends.proofs.ClosingLemmas.{closes_memory}
 use Rattle.uac_cli.proofs.ProgramLemmas.{asked_words, call_asked, whole_asked, end_asked, call_unread}
 use Rattle.uac_cli.proofs.program.run_program.Goals as goal
@@ -13,7 +14,10 @@ returns-in-Ok-run_in_boxes-clause-ok g c =
 
 pub returns-in-Ok-run_in_boxes-clause-complete : goal.returns-in-Ok-run_in_boxes-clause-complete
 returns-in-Ok-run_in_boxes-clause-complete g c =
-    whole_asked _ _ _ _ _ (asked_words c.args.args c.in-Ok.words.items _ c.deref.ensures.value c.in-Ok.ensures.given c.in-Ok.ensures.none) c.in-Ok-run_in_boxes.ensures.run.complete
+    whole_asked _ _ _
+    (outside (g.S.Source.left c.run_in_boxes.new.source) (g.S.Source.faults c.run_in_boxes.new.source)
+    (g.K.Sink.written c.run_in_boxes.new.sink) (g.K.Sink.faults c.run_in_boxes.new.sink))
+    _ (asked_words c.args.args c.in-Ok.words.items _ c.deref.ensures.value c.in-Ok.ensures.given c.in-Ok.ensures.none) c.in-Ok-run_in_boxes.ensures.run.complete
 
 pub returns-in-Ok-clause-call : goal.returns-in-Ok-clause-call
 returns-in-Ok-clause-call g c =
