@@ -2,7 +2,7 @@
 use Rattle.std.proofs.Common.{◌≡◌, ◌≢◌, ℕ, List, [], ◌∷◌, ◌++◌, refl, sym, ap, subst, ◌∙◌, true, Option, None, Some, Result, Ok, Err, IfOk, IfErr, IsErrAnd}
 use Rattle.std.specs.Io.KnownBytes.{Appends}
 use Rattle.std.proofs.KnownBytes.{Appends-nil}
-use Rattle.uac_sentence.specs.declared.faults.GrammarFault.{GrammarFault}
+use Rattle.uac_grammar_rules.specs.declared.faults.GrammarFault.{GrammarFault}
 use Rattle.uac_grammar.specs.ReaderKept as reader
 use Rattle.uac_grammar.specs.Stop.{shown_fault, shown_stop}
 use Rattle.uac_grammar.specs.declared.fault.ReadStop.{ReadStop}
@@ -12,11 +12,11 @@ use Rattle.uac_grammar.proofs.StopLemmas.{stop_at-Fault}
 use Rattle.uac_topology_rules.specs.declared.fault.TopologyFault.{TopologyFault}
 use Rattle.uac_topology.specs.Function.{FunctionFields}
 use Rattle.uac_topology.specs.Topology.{first_fault_of}
-use Rattle.uac_configuration.specs.declared.describing.SoundDescriptor.{SoundDescriptor}
-use Rattle.uac_configuration.specs.declared.fault.DescriptorFault.{DescriptorFault}
-use Rattle.uac_configuration.specs.declared.fault.DescriptorFault.TheVariants as broken
-use Rattle.uac_configuration.specs.Description.{blocks_of, function_of}
-use Rattle.uac_configuration.specs.ConfigurationVerdict.{Describes, fault_of}
+use Rattle.uac_topology.specs.declared.describing.SoundDescriptor.{SoundDescriptor}
+use Rattle.uac_topology.specs.declared.fault.DescriptorFault.{DescriptorFault}
+use Rattle.uac_topology.specs.declared.fault.DescriptorFault.TheVariants as broken
+use Rattle.uac_topology.specs.Description.{blocks_of, function_of}
+use Rattle.uac_topology.specs.ConfigurationVerdict.{Describes, fault_of}
 use Rattle.uac_units.specs.Hearing.{Reading}
 use Rattle.uac_edges.specs.Writing.{AppendsFront, Writes}
 use Rattle.uac_transcript.specs.Transcript.{spelling_of}

@@ -1,3 +1,2 @@
 pub mod BusWorldDescriptorLemmas
 pub mod BusWorldLemmas
-pub mod AfterLemmas

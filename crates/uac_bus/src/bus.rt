@@ -77,6 +77,7 @@ impl Bus {
     }
 
     /// Does one line and prints its text. The lines `d`, `g` and `a` alone take memory.
+    /// Tests alone call it: the program's lines are done by `lent_line`.
     ///
     /// # Errors
     ///

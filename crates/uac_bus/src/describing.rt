@@ -1,6 +1,6 @@
 // The lines of the descriptor.
 ghost use Rattle.std.specs.Prelude.{◌≡◌, ◌≢◌, ◌++◌, ℕ, List, Option, None, Ok, true, IfErr, IfOk};
-ghost use Rattle.uac_configuration.specs.ConfigurationVerdict.{Describes};
+ghost use Rattle.uac_topology.specs.ConfigurationVerdict.{Describes};
 ghost use Rattle.uac_units.specs.Hearing.{Reading};
 ghost use Rattle.uac_edges.specs.Faults.{HasCause};
 ghost use Rattle.uac_edges.specs.Writing.{Writes};
@@ -14,11 +14,11 @@ ghost use Rattle.uac_rows.specs.Rows.{HasWriteCause};
 
 use crate::bus::BusStage;
 use std::alloc::Global;
-use uac_configuration::{SoundDescriptor, sound_descriptor};
 use uac_edges::Sink;
 use uac_fault::BusFault;
 use uac_grammar::Reader;
 use uac_running::Running;
+use uac_topology::{SoundDescriptor, sound_descriptor};
 
 /// Takes more bytes of the descriptor.
 pub(crate) fn feed(reader: &mut Reader, bytes: &[u8]) -> Result<(), BusFault>

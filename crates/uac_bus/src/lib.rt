@@ -5,9 +5,7 @@
 mod bus;
 /// The lines of the descriptor.
 mod describing;
-/// The law that ties one line to all lines.
-pub mod laws;
 
 pub use bus::Bus;
-pub use uac_configuration::bytes_of;
 pub use uac_fault::BusFault;
+pub use uac_topology::bytes_of;

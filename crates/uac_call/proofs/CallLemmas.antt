@@ -16,10 +16,10 @@ use Rattle.uac_ends.specs.Closing.{Closes, IsClosed, IsFaultless, IsReadToEnd}
 use Rattle.uac_ends.specs.Outcome.{Outcome, no_memory}
 use Rattle.uac_ends.specs.Outside.{Outside, outside}
 use Rattle.uac_ends.proofs.ClosingLemmas.{closes_faultless, told_status}
-use Rattle.uac_describe.specs.declared.description.Description.{Description}
-use Rattle.uac_describe.specs.declared.description.Description.TheVariants.{Check, Elements, Show}
-use Rattle.uac_describe.specs.Answered.{IsDescribed}
-use Rattle.uac_describe.specs.SettleLines.{settle_outcome}
+use Rattle.uac_listing.specs.declared.description.Description.{Description}
+use Rattle.uac_listing.specs.declared.description.Description.TheVariants.{Check, Elements, Show}
+use Rattle.uac_listing.specs.Answered.{IsDescribed}
+use Rattle.uac_listing.specs.SettleLines.{settle_outcome}
 use Rattle.uac_scripts.specs.BusRun.{IsBusRun}
 use Rattle.uac_scripts.specs.Surroundings.{Surroundings, surroundings}
 use Rattle.uac_call.specs.Call.{AreAnswered, Describes, IsCall, ComesOfCommand, IsGenerated, PrintsAlone, ask_to_read, reads_all, usage}
@@ -101,7 +101,7 @@ none_asked asked fault is answer = subst (λ (x : WordsFault). IsAnswer asked (E
 
 -- the usage line is the text that is written
 pub closes_usage : (w w' : Option (List ℕ)) (f f' : ℕ) (status : Status)
-    → Closes (record { text = codes "usage: uac_cli check|show|elements|run|gen NUMBER|settle [--rack plain|lanes]\n"; status = statuses.Usage }) w w' f f' status
+    → Closes (record { text = codes "usage: uac_cli check|show|elements|run|gen NUMBER|full RATE|settle|pair RATE|panel [--rack plain|lanes]\n"; status = statuses.Usage }) w w' f f' status
     → Closes usage w w' f f' status
 closes_usage w w' f f' status closed = closed
 

@@ -10,9 +10,9 @@ use Rattle.uac_script.specs.LineParsing.{answer}
 use Rattle.uac_fault.specs.declared.fault.BusFault.{BusFault}
 use Rattle.uac_rows.specs.BusWorld.{BusWorld, describing, running, finish_of, start}
 use Rattle.uac_transcript.specs.Transcript.{Said}
-use Rattle.uac_steady.specs.Scripts.{after_texts}
-use Rattle.uac_generated.specs.Generated.{IsLineOfScript}
-use Rattle.uac_generated.proofs.GeneratedLemmas.{generated_scripts_are_done, generated_scripts_are_scripts, generated_scripts_are_steady}
+use Rattle.uac_promises.specs.Scripts.{after_texts}
+use Rattle.uac_promises.specs.Generated.{IsLineOfScript}
+use Rattle.uac_promises.proofs.GeneratedLemmas.{generated_scripts_are_done, generated_scripts_are_scripts, generated_scripts_are_steady}
 use Rattle.uac_promises.proofs.PromisesLemmas.{all_scripts_keep_promises}
 use Rattle.uac_ends.specs.declared.fault.LineFault.{LineFault}
 use Rattle.uac_ends.specs.Outcome.{at_end, finished}
@@ -21,9 +21,8 @@ use Rattle.uac_runner.specs.Done.{IsScriptLine, come_to, go_unless_refused}
 use Rattle.uac_runner.specs.Transcript.{Ending, ends, goes, last_by, transcript, with_lines_first}
 use Rattle.uac_runner.proofs.ScriptLemmas.{script_lines}
 use Rattle.uac_runner.proofs.TranscriptLemmas.{goes_at, head_nothing}
-use Rattle.uac_scripts.specs.BusLaws.{lifted_fault}
-use Rattle.uac_scripts.specs.BusMachine.{bus_machine, rule_at_end}
-use Rattle.uac_scripts.proofs.BusLemmas.{all_say, answers_by_table, lines_are_sayings}
+use Rattle.uac_scripts.specs.BusMachine.{bus_machine, lifted_fault, rule_at_end}
+use Rattle.uac_scripts.proofs.BusLemmas.{all_of_bytes, answers_by_table, lines_are_sayings}
 use Rattle.uac_call.specs.GeneratedCall.{GeneratedScriptsRunWhole}
 
 are_lines : (texts : List (List ℕ)) → AllByRecursion IsLineOfScript texts → AllByRecursion IsScriptLine texts
@@ -66,7 +65,7 @@ generated_scripts_run_whole number shown small =
           ap (λ (bytes : List ℕ). transcript (bus_machine answer) (start shown) bytes at_end) (all_bytes number)
           ∙ script_lines (bus_machine answer) (start shown) texts [] at_end (are_lines texts is.lines) fits
           ∙ none_refused a 1 _ _ none (ended _ (length texts + 1) a.world end);
-      promised = all_scripts_keep_promises texts (map answer texts) shown (all_say answer texts answers_by_table) (generated_scripts_are_steady number shown small);
+      promised = all_scripts_keep_promises (map answer texts) shown (all_of_bytes answer texts answers_by_table) (generated_scripts_are_steady number shown small);
     }
   where
     all_bytes : (n : ℕ) → script_of n ≡ with_newlines (generated_lines n) ++ []

@@ -10,12 +10,14 @@ use Rattle.uac_ends.specs.declared.status.Status.TheVariants as statuses
 use Rattle.uac_ends.specs.Closing.{IsClosed}
 use Rattle.uac_ends.specs.Outcome.{Outcome, no_memory}
 use Rattle.uac_ends.specs.Outside.{IsUntouched}
-use Rattle.uac_describe.specs.declared.description.Description.{Description}
-use Rattle.uac_describe.specs.declared.description.Description.TheVariants.{Check, Elements, Show}
-use Rattle.uac_describe.specs.Answered.{IsDescribed}
-use Rattle.uac_describe.specs.SettleLines.{settle_outcome}
+use Rattle.uac_listing.specs.declared.description.Description.{Description}
+use Rattle.uac_listing.specs.declared.description.Description.TheVariants.{Check, Elements, Show}
+use Rattle.uac_listing.specs.Answered.{IsDescribed}
+use Rattle.uac_listing.specs.SettleLines.{settle_outcome}
 use Rattle.uac_scripts.specs.BusRun.{IsBusRun}
 use Rattle.uac_scripts.specs.Surroundings.{Surroundings, with_source}
+use Rattle.uac_call.specs.Benches.{RunsAtFullSpeed, RunsOnPair}
+use Rattle.uac_call.specs.FrontPanel.{RunsOnPanel}
 
 -- the words are no command
 abbrev pub usage : Outcome
@@ -38,14 +40,17 @@ pub record IsGenerated (number : ℕ) (before after : Surroundings) (status : St
   pub run : IsBusRun (with_source (Some (script_of number)) 0 before) (with_source unread 0 after) status
   pub untouched : IsUntouched before.outer after.outer
 
--- what a command comes to
+-- what a command comes to; a bench may find no memory, before the first line
 abbrev pub ComesOfCommand : Command → Surroundings → Surroundings → Status → Type 0
 ComesOfCommand commands.Check before after status = Describes Check before after status
 ComesOfCommand commands.Show before after status = Describes Show before after status
 ComesOfCommand commands.Elements before after status = Describes Elements before after status
 ComesOfCommand commands.Run before after status = IsBusRun before after status
 ComesOfCommand (commands.Gen number) before after status = IsGenerated number before after status
+ComesOfCommand (commands.Full rate) before after status = RunsAtFullSpeed rate before after status ⊎ PrintsAlone no_memory before after status
 ComesOfCommand commands.Settle before after status = PrintsAlone settle_outcome before after status
+ComesOfCommand (commands.Pair rate) before after status = RunsOnPair rate before after status ⊎ PrintsAlone no_memory before after status
+ComesOfCommand commands.Panel before after status = RunsOnPanel before after status
 
 -- what words come to: the command that they ask for is done, over either rack, and words that ask for none are told how the program is
 -- used
@@ -64,7 +69,10 @@ reads_all commands.Show = true
 reads_all commands.Elements = true
 reads_all commands.Run = true
 reads_all (commands.Gen number) = false
+reads_all (commands.Full rate) = true
 reads_all commands.Settle = false
+reads_all (commands.Pair rate) = true
+reads_all commands.Panel = true
 
 -- the words ask for such a command
 abbrev pub ask_to_read : Option Invocation → Bool

@@ -10,28 +10,38 @@ use Rattle.uac_ends.specs.declared.status.Status.{Status}
 use Rattle.uac_ends.specs.declared.status.Status.TheVariants as statuses
 use Rattle.uac_ends.specs.Closing.{ComesTo, HasNoFault}
 use Rattle.uac_ends.specs.Outcome.{Outcome, at_end}
-use Rattle.uac_describe.specs.declared.description.Description.TheVariants.{Check, Elements, Show}
-use Rattle.uac_describe.specs.Outcome.{IsOutcomeOf}
-use Rattle.uac_describe.specs.SettleLines.{settle_outcome}
+use Rattle.uac_listing.specs.declared.description.Description.TheVariants.{Check, Elements, Show}
+use Rattle.uac_listing.specs.Outcome.{IsOutcomeOf}
+use Rattle.uac_listing.specs.SettleLines.{settle_outcome}
+use Rattle.uac_runner.specs.Machine.{Machine}
 use Rattle.uac_runner.specs.Transcript.{outcome_of, transcript}
+use Rattle.uac_fullspeed.specs.FullSpeedWorld.{full_speed_start}
+use Rattle.uac_fullspeed.specs.FullSpeedMachine.{fs_machine}
+use Rattle.uac_implicit.specs.Following.{pair_start}
+use Rattle.uac_implicit.specs.PairMachine.{pair_machine}
 use Rattle.uac_scripts.specs.BusMachine.{AreByTable, Sayings, bus_machine}
 use Rattle.uac_scripts.specs.Surroundings.{Surroundings}
 use Rattle.uac_call.specs.Call.{reads_all}
+use Rattle.uac_call.specs.FrontPanel.{PanelComesTo}
 
--- a script of these bytes and no more has this outcome, by what its texts say by the table of spellings
-abbrev pub ScriptComesTo : List Reading → List ℕ → Outcome → Type 0
-ScriptComesTo shown bytes outcome =
-    (says : Sayings) × AreByTable says × (outcome_of (bus_machine says) (transcript (bus_machine says) (start shown) bytes at_end) ≡ outcome)
+-- a script of these bytes and no more has this outcome on a machine from this world on, by what its texts say by the table of spellings
+abbrev pub ScriptComesTo : {W L : Type 0} → (Sayings → Machine W L) → W → List ℕ → Outcome → Type 0
+ScriptComesTo machine w bytes outcome =
+    (says : Sayings) × AreByTable says × (outcome_of (machine says) (transcript (machine says) w bytes at_end) ≡ outcome)
 
 -- What a command comes to over an input that is these bytes and no more: `check`, `show` and `elements` say what is said of them where they
--- end, `run` does their lines to the end, `gen` does those of its number's script, and `settle` takes no input.
+-- end, `run`, `full`, `pair` and `panel` do their lines to the end, each on its machine, `gen` does those of its number's script, and `settle` takes no
+-- input.
 abbrev pub InputComesTo : Command → List Reading → List ℕ → Outcome → Type 0
 InputComesTo commands.Check shown bytes outcome = IsOutcomeOf Check bytes at_end outcome
 InputComesTo commands.Show shown bytes outcome = IsOutcomeOf Show bytes at_end outcome
 InputComesTo commands.Elements shown bytes outcome = IsOutcomeOf Elements bytes at_end outcome
-InputComesTo commands.Run shown bytes outcome = ScriptComesTo shown bytes outcome
-InputComesTo (commands.Gen number) shown bytes outcome = ScriptComesTo shown (script_of number) outcome
+InputComesTo commands.Run shown bytes outcome = ScriptComesTo bus_machine (start shown) bytes outcome
+InputComesTo (commands.Gen number) shown bytes outcome = ScriptComesTo bus_machine (start shown) (script_of number) outcome
+InputComesTo (commands.Full rate) shown bytes outcome = ScriptComesTo fs_machine (full_speed_start rate) bytes outcome
 InputComesTo commands.Settle shown bytes outcome = settle_outcome ≡ outcome
+InputComesTo (commands.Pair rate) shown bytes outcome = ScriptComesTo pair_machine (pair_start rate) bytes outcome
+InputComesTo commands.Panel shown bytes outcome = PanelComesTo bytes outcome
 
 -- the source has these bytes and no more, and no read of it failed, where the command reads it
 abbrev pub HasInput : Command → List ℕ → Surroundings → Surroundings → Type 0

@@ -4,6 +4,7 @@ ghost use Rattle.std.specs.Io.KnownBytes.{IsAtEnd};
 ghost use Rattle.uac_edges.specs.Faults.{Rose};
 ghost use Rattle.uac_units.specs.Fitting.{IsFitted};
 ghost use Rattle.uac_units.specs.MeterReadings.{readings};
+ghost use Rattle.uac_words.specs.CommandLines.{IsCommandInRange};
 ghost use Rattle.uac_words.specs.Plain.{plainly};
 ghost use Rattle.uac_call.specs.Call.{IsCall, IsGenerated, ask_to_read};
 ghost use Rattle.uac_call.specs.Completeness.{IsCompleteCall};
@@ -12,18 +13,20 @@ ghost use Rattle.uac_ends.specs.Closing.{IsFaultless};
 ghost use Rattle.uac_ends.specs.Outside.{outside};
 ghost use Rattle.uac_scripts.specs.Surroundings.{surroundings};
 
+use crate::benches::{run_full, run_pair};
+use crate::front_panel::run_panel;
 use std::alloc::Global;
-use uac_describe::{Description, describe, settle};
 use uac_edges::{Sink, Source};
 use uac_ends::{NO_MEMORY, Status, conclude, hand_on};
 use uac_gen::GenSource;
+use uac_listing::{Description, describe, settle};
 use uac_scripts::run_script;
 use uac_units::{Meter, Meters, Rack, Unit};
 use uac_words::{Command, Invocation, RackChoice, WordsFault};
 
 /// What is written where the words are no command: how the program is used.
 const USAGE: &[u8] =
-    b"usage: uac_cli check|show|elements|run|gen NUMBER|settle [--rack plain|lanes]\n";
+    b"usage: uac_cli check|show|elements|run|gen NUMBER|full RATE|settle|pair RATE|panel [--rack plain|lanes]\n";
 
 /// The units with which graphs are rendered: one sample after the other, and many side by side.
 #[derive(Drop)]
@@ -35,8 +38,9 @@ pub struct Racks {
 /// Runs the program: `words` are those after its name. `check`, `show` and `elements` read a descriptor from the source, to its end or to
 /// the first fault that its bytes show, and write what is said of it to the sink. `run` does the lines of a script, to its end or to the
 /// first that is refused, and `gen` those of a generated script, without the source: they are rendered with the units of the rack that
-/// the words choose, and heard by the meters. `settle` writes how long streams take to come home. Every other list of words takes
-/// nothing and is answered by the usage line.
+/// the words choose, and heard by the meters. `full`, `pair` and `panel` do the lines of a script, too, on one full-speed stream, on a
+/// pair of streams and on a front panel. `settle` writes how long streams take to come home. Every other list of words takes nothing and
+/// is answered by the usage line.
 pub fn uac_main<S: Source, K: Sink>(
     alloc: Global,
     words: &[String],
@@ -97,6 +101,7 @@ fn perform<S: Source, K: Sink>(
 ) -> Status
     requires plain { IsFitted (λ v x. (⟦<dyn Unit as Unit>⟧ v).kind_of x) racks.now.plain }
     requires lanes { IsFitted (λ v x. (⟦<dyn Unit as Unit>⟧ v).kind_of x) racks.now.lanes }
+    requires range { IsCommandInRange words.command }
     ensures { Performs words.command
         (surroundings (outside (S.left source.old) (S.faults source.old) (K.written sink.old) (K.faults sink.old))
         (readings (λ v x. (⟦<dyn Meter as Meter>⟧ v).reading_of x) meters.old))
@@ -119,6 +124,7 @@ fn do_command<S: Source, K: Sink>(
     meters: &mut Meters,
 ) -> Status
     requires rack { IsFitted (λ v x. (⟦<dyn Unit as Unit>⟧ v).kind_of x) rack.now }
+    requires range { IsCommandInRange command }
     ensures { Performs command
         (surroundings (outside (S.left source.old) (S.faults source.old) (K.written sink.old) (K.faults sink.old))
         (readings (λ v x. (⟦<dyn Meter as Meter>⟧ v).reading_of x) meters.old))
@@ -131,7 +137,10 @@ fn do_command<S: Source, K: Sink>(
         Command::Elements => describe(alloc, Description::Elements, source, sink),
         Command::Run => run_script(alloc, source, sink, rack, meters),
         Command::Gen(number) => generate(alloc, number, sink, rack, meters),
+        Command::Full(rate) => run_full(alloc, rate, source, sink),
         Command::Settle => settle(sink),
+        Command::Pair(rate) => run_pair(alloc, rate, source, sink),
+        Command::Panel => run_panel(alloc, source, sink),
     }
 }
 

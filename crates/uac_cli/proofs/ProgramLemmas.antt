@@ -13,7 +13,7 @@ use Rattle.uac_ends.specs.Closing.{Closes}
 use Rattle.uac_ends.specs.Outcome.{no_memory}
 use Rattle.uac_ends.specs.Outside.{Outside, outside}
 use Rattle.uac_call.specs.Call.{ask_to_read}
-use Rattle.uac_cli.specs.Boxes.{IsCompleteFreshCall, IsFreshCall, fresh_readings}
+use Rattle.uac_boxes.specs.Boxes.{IsCompleteFreshCall, IsFreshCall, fresh_readings}
 use Rattle.uac_cli.specs.Program.{asked_by}
 
 -- the words after the name ask for what the arguments ask for

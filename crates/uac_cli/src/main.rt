@@ -4,8 +4,6 @@
 
 /// The words after the program's name.
 mod arguments;
-/// The boxes of the program: its units and its meters.
-mod boxes;
 /// The program from its arguments to its status.
 mod program;
 #[cfg(test)]
@@ -22,5 +20,5 @@ fn main(rt: HostRuntime) -> ExitCode {
     let alloc = rt.alloc();
     let mut source = StdSource::new(rt.stdin());
     let mut sink = Gathering::new(StdSink::new(rt.stdout()));
-    exit_code(run_program(alloc, env::args(&rt), &mut source, &mut sink))
+    run_program(alloc, env::args(&rt), &mut source, &mut sink)
 }

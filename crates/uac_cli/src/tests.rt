@@ -3,12 +3,12 @@ ghost use Rattle.std.specs.Prelude.{◌≡◌, ◌<◌, IfOk};
 ghost use Rattle.uac_units.specs.Fitting.{IsFitted};
 
 use super::*;
-use crate::boxes::run_in_boxes;
 use std::alloc::{AllocError, Global};
 use std::cell::Cell;
 use std::process::Abort;
 use std::rc::Rc;
 use std::test::Fail;
+use uac_boxes::run_in_boxes;
 use uac_bus::Bus;
 use uac_descriptor::{ByteList, NoMemory, WordList};
 use uac_edges::{MemorySink, MemorySource, Source, SteadySource};
@@ -18,6 +18,9 @@ use uac_units::{
     Job, LaneEffect, LaneFeature, LaneMixer, LaneSelector, Meters, Pins, PlainEffect, PlainFeature,
     PlainMixer, PlainSelector, Rack, Steps, Unit, UnitKind,
 };
+
+/// The headset's track.
+mod headset;
 
 /// The least descriptor: 35 bytes, blocks at 0, 9, 17 and 26.
 const MINIMAL: [u8; 35] = [
@@ -206,7 +209,7 @@ fn read_fault_at_the_second_call(rt: HostRuntime) -> Result<(), Fail> {
 
 /// What the program writes where its words are no command.
 const USAGE: &[u8] =
-    b"usage: uac_cli check|show|elements|run|gen NUMBER|settle [--rack plain|lanes]\n";
+    b"usage: uac_cli check|show|elements|run|gen NUMBER|full RATE|settle|pair RATE|panel [--rack plain|lanes]\n";
 
 #[test]
 fn other_words_take_nothing(rt: HostRuntime) -> Result<(), Fail> {

@@ -232,9 +232,10 @@ words_spelt (suc k) bytes are fits =
     in
     rw (f.0, f.1, f.2, f.3, onward, ← drop-drop (4 * k) 4 bytes, e) (cells-drop 4 bytes (omega (arith, fits)))
 
-length-words_in : (k : ℕ) (bytes : List ℕ) → length (words_in k bytes) ≡ k
-length-words_in zero bytes = refl
-length-words_in (suc k) bytes = ap suc (length-words_in k (drop 4 bytes))
+-- as many words as are asked for
+pub words_length : (k : ℕ) (bytes : List ℕ) → length (words_in k bytes) ≡ k
+words_length zero bytes = refl
+words_length (suc k) bytes = ap suc (words_length k (drop 4 bytes))
 
 -- the last byte is what is after all others
 last_cell : (i : ℕ) (bytes : List ℕ) → length bytes ≡ i + 1 → last_of bytes ∷ [] ≡ drop i bytes
@@ -373,11 +374,11 @@ unfolding fields has_length
 HasAllParts-fields rows.feature bytes whole long =
     let k : ℕ = (length bytes - 6) / 4 in
     let least : 10 ≤ length bytes = leb-true 10 (length bytes) (and_parts (nat_le 10 (length bytes)) (length bytes % 4 == 2) long).0 in
-    rw (length-words_in k (drop 5 bytes)) (omega (arith, least))
+    rw (words_length k (drop 5 bytes)) (omega (arith, least))
 HasAllParts-fields rows.effect bytes whole long =
     let k : ℕ = (length bytes - 8) / 4 in
     let least : 12 ≤ length bytes = leb-true 12 (length bytes) (and_parts (nat_le 12 (length bytes)) (length bytes % 4 == 0) long).0 in
-    rw (length-words_in k (drop 7 bytes)) (omega (arith, least))
+    rw (words_length k (drop 7 bytes)) (omega (arith, least))
 HasAllParts-fields rows.foreign bytes whole long = whole
 HasAllParts-fields rows.too_short bytes whole long = whole
 HasAllParts-fields rows.configuration bytes whole long = tt

@@ -3,4 +3,4 @@ pub mod SpellingLemmas
 pub mod BlockParsingLemmas
 pub mod LawsLemmas
 pub mod EndpointsLemmas
-mod Headset
+pub mod Headset

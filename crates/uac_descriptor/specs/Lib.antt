@@ -10,8 +10,8 @@ pub mod Classes
 pub mod BlockParsing
 pub mod Kinds
 pub mod BlockTurns
--- What the laws say besides.
 pub mod Contexts
 pub mod BlockFields
+-- What the laws say besides.
 pub mod WellFormed
 pub mod Laws

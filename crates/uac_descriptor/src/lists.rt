@@ -52,7 +52,7 @@ impl ByteList {
     /// A list of its own of these bytes. Where they are few it takes no memory.
     pub fn from_slice(alloc: Global, bytes: &[u8]) -> Result<ByteList, NoMemory>
         ensures copied { IfOk result (λ list. list ≡ bytes.now) }
-        ensures few { length bytes.now ≤ FEW → IsOk result }
+        ensures few { length bytes.now ≤ 16 → IsOk result }
     {
         Ok(ByteList {
             items: SmallVec::from_slice(alloc, bytes)?,

@@ -2,7 +2,7 @@
 use crate::blocks::{configuration, header, interface};
 use std::test::Fail;
 use uac_descriptor::{Association, Block};
-use uac_sentence::{FURTHEST, State};
+use uac_grammar_rules::{FURTHEST, State};
 
 /// The bytes of each block of the shortest descriptor, and the block.
 fn shortest() -> [(u8, Block); 4] {
@@ -31,8 +31,7 @@ fn the_shortest_descriptor_breaks_no_rule(rt: HostRuntime) -> Result<(), Fail> {
     assert_eq!(rt; state.rule_at_end(place), Some(1));
     for (size, block) in shortest() {
         assert!(rt; place <= FURTHEST);
-        assert_eq!(rt; state.rule_broken(place, size, &block), None);
-        state.take(place, &block);
+        assert_eq!(rt; state.judge(place, size, &block), Ok(()));
         place += size as u32;
     }
     assert_eq!(rt; place, 35);

@@ -3,7 +3,7 @@ use crate::blocks::{configuration, interface, usb_input};
 use std::alloc::{AllocError, Global};
 use std::test::Fail;
 use uac_descriptor::{Block, ClockSource, OutputTerminal};
-use uac_sentence::are_well_formed;
+use uac_grammar_rules::are_well_formed;
 use uac_topology::{CheckStop, Function, TopologyFault, check};
 
 fn push(blocks: &mut Vec<Block>, block: Block) -> Result<(), AllocError> {

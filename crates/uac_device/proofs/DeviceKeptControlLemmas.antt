@@ -13,14 +13,14 @@ use Rattle.uac_alt.specs.declared.values.Stream.{Stream}
 use Rattle.uac_request.specs.Requests.{RequestState, AnswerFields, after_request, request_state, rate_at, reply_of, sets_interface, is_done_answer}
 use Rattle.uac_request.specs.declared.setup.Setup.{Setup}
 use Rattle.uac_flow.specs.FlowStreams.{InStream, OutStream}
-use Rattle.uac_device_streams.specs.declared.device_stream.DeviceStream.{DeviceStream}
-use Rattle.uac_device_streams.specs.declared.device_stream.Port.{Port}
-use Rattle.uac_device_streams.specs.InterfaceStreams.{in_from, out_from, streams_replaced_at}
+use Rattle.uac_device.specs.declared.device_stream.DeviceStream.{DeviceStream}
+use Rattle.uac_device.specs.declared.device_stream.Port.{Port}
+use Rattle.uac_device.specs.InterfaceStreams.{in_from, out_from, streams_replaced_at}
 use Rattle.uac_device.specs.DeviceWorld.{BegunFields, DeviceWorld, after_control, after_restart, begun_by, stream_in_setting}
 use Rattle.uac_device.specs.DeviceKept.{DeviceFields, IsControlled, IsDevice, DeviceStands}
-use Rattle.uac_device_streams.specs.DeviceStreams.{DeviceStreamsStand, port_of, ports}
+use Rattle.uac_device.specs.DeviceStreams.{DeviceStreamsStand, port_of, ports}
 use Rattle.uac_device.specs.Linked.{FitsInterface}
-use Rattle.uac_device_streams.proofs.DeviceStreamsLemmas.{FitsAt}
+use Rattle.uac_device.proofs.DeviceStreamsLemmas.{FitsAt}
 use Rattle.uac_device.proofs.AltStreamsLemmas.{stream_fits}
 
 -- ---- the stream that is asked for

@@ -14,10 +14,10 @@ use Rattle.uac_clock.specs.declared.values.Nominal.{Nominal}
 use Rattle.uac_store.specs.Rates.{rate_of}
 use Rattle.uac_device.specs.declared.clocks.DomainClock.{DomainClock}
 use Rattle.uac_flow.specs.FlowStreams.{after_ticks}
-use Rattle.uac_device_streams.specs.InterfaceStreams.{changed_where}
+use Rattle.uac_device.specs.InterfaceStreams.{changed_where}
 use Rattle.uac_device.specs.DeviceWorld.{DeviceWorld, Domain, after_advance, after_deviation, is_on, next_ticks, step_in, steps_with_next}
-use Rattle.uac_device_streams.specs.declared.device_stream.DeviceStream.{DeviceStream}
-use Rattle.uac_device_streams.specs.DeviceStreams.{DeviceStreamsStand}
+use Rattle.uac_device.specs.declared.device_stream.DeviceStream.{DeviceStream}
+use Rattle.uac_device.specs.DeviceStreams.{DeviceStreamsStand}
 use Rattle.uac_device.specs.DeviceKept.{DeviceFields, IsDeviationInRange, DeviceStands, clock_of}
 use Rattle.uac_device.specs.DeviceTurns.{clock_after_advance, clock_after_deviation, first_ticks, resting_clock, step_by, ticks_where}
 

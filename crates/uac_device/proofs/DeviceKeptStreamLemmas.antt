@@ -14,14 +14,14 @@ use Rattle.uac_graph.specs.Meaning.{entity}
 use Rattle.uac_graph.specs.Wiring.{AreWiresOf, Frames, frame_on}
 use Rattle.uac_graph.proofs.WiringTerminalLemmas.{input_signal, output_signal}
 use Rattle.uac_graph.proofs.WiringWireLemmas.{signal_channels}
-use Rattle.uac_flow.specs.FlowStreams.{InStream, OutStream, after_packet, after_sending, settled_in, settled_out}
-use Rattle.uac_device_streams.specs.declared.device_stream.DeviceStream.{DeviceStream}
-use Rattle.uac_device_streams.specs.declared.device_stream.Port.{Port}
-use Rattle.uac_device_streams.specs.InterfaceStreams.{NoneRuns, streams_changed_at, runs_either}
-use Rattle.uac_device.specs.DeviceWorld.{DeviceWorld, is_on, played_to, after_receiving, after_sending_packet, after_settling}
+use Rattle.uac_flow.specs.FlowStreams.{InStream, OutStream, after_packet, after_sending_in, in_after_end, out_after_end}
+use Rattle.uac_device.specs.declared.device_stream.DeviceStream.{DeviceStream}
+use Rattle.uac_device.specs.declared.device_stream.Port.{Port}
+use Rattle.uac_device.specs.InterfaceStreams.{NoneRuns, streams_changed_at, runs_either}
+use Rattle.uac_device.specs.DeviceWorld.{DeviceWorld, is_on, played_to, after_receiving, after_sending_in_packet, after_end}
 use Rattle.uac_device.specs.DeviceKept.{DeviceFields, IsDevice, DeviceStands}
 use Rattle.uac_device.specs.Linked.{AreLinked}
-use Rattle.uac_device_streams.specs.DeviceStreams.{DeviceStreamStands, DeviceStreamsStand, IsWiredIn, IsWiredOut, idle_stream, port_of, ports}
+use Rattle.uac_device.specs.DeviceStreams.{DeviceStreamStands, DeviceStreamsStand, IsWiredIn, IsWiredOut, idle_stream, port_of, ports}
 use Rattle.uac_device.proofs.DeviceWorldInputLemmas.{find_own}
 
 pub stands_streams : (device : DeviceFields) (device_streams : List DeviceStream) (w : DeviceWorld) (outs : ℕ → Option OutStream) (ins : ℕ → Option InStream) → DeviceStands device w
@@ -60,17 +60,17 @@ none_changed interface k change streams none =
     elim (cases_Bool (k == interface)) [ inl same ↦ rw same (ap (option_map change) none) | inr other ↦ rw other none ]
 
 -- where no interface runs a stream none does when a microframe ended, and the device stands as it is for the world in which it did
-pub none_settled : (w : DeviceWorld) (interface : ℕ) → NoneRuns w.outs w.ins → NoneRuns (after_settling interface w).outs (after_settling interface w).ins
-unfolding after_settling
-none_settled w interface none k =
-    (none_changed interface k settled_out w.outs (none k).0, none_changed interface k settled_in w.ins (none k).1)
+pub none_ended : (w : DeviceWorld) (interface : ℕ) → NoneRuns w.outs w.ins → NoneRuns (after_end interface w).outs (after_end interface w).ins
+unfolding after_end
+none_ended w interface none k =
+    (none_changed interface k out_after_end w.outs (none k).0, none_changed interface k in_after_end w.ins (none k).1)
 
-pub quiet_settled : (device : DeviceFields) (w : DeviceWorld) (interface : ℕ) → NoneRuns w.outs w.ins → DeviceStands device w → DeviceStands device (after_settling interface w)
-unfolding after_settling
-quiet_settled device w interface none stands =
-    stands_streams device device.device_streams w (streams_changed_at interface settled_out w.outs) (streams_changed_at interface settled_in w.ins) stands
-    (same_streams device.device_streams w.outs (streams_changed_at interface settled_out w.outs) w.ins (streams_changed_at interface settled_in w.ins) stands.streams
-    (λ k. none_changed interface k settled_out w.outs (none k).0 ∙ sym (none k).0) (λ k. none_changed interface k settled_in w.ins (none k).1 ∙ sym (none k).1))
+pub quiet_ended : (device : DeviceFields) (w : DeviceWorld) (interface : ℕ) → NoneRuns w.outs w.ins → DeviceStands device w → DeviceStands device (after_end interface w)
+unfolding after_end
+quiet_ended device w interface none stands =
+    stands_streams device device.device_streams w (streams_changed_at interface out_after_end w.outs) (streams_changed_at interface in_after_end w.ins) stands
+    (same_streams device.device_streams w.outs (streams_changed_at interface out_after_end w.outs) w.ins (streams_changed_at interface in_after_end w.ins) stands.streams
+    (λ k. none_changed interface k out_after_end w.outs (none k).0 ∙ sym (none k).0) (λ k. none_changed interface k in_after_end w.ins (none k).1 ∙ sym (none k).1))
 
 pub received_stands : (device : DeviceFields) (device_streams : List DeviceStream) (w : DeviceWorld) (interface : ℕ) (packet : Option (List ℕ)) → DeviceStands device w
     → DeviceStreamsStand device_streams (streams_changed_at interface (after_packet packet) w.outs) w.ins → DeviceStands (record device { device_streams = device_streams }) (after_receiving interface packet w)
@@ -78,15 +78,15 @@ unfolding after_receiving
 received_stands device device_streams w interface packet stands keeps = stands_streams device device_streams w (streams_changed_at interface (after_packet packet) w.outs) w.ins stands keeps
 
 pub sent_stands : (device : DeviceFields) (device_streams : List DeviceStream) (w : DeviceWorld) (interface : ℕ) → DeviceStands device w
-    → DeviceStreamsStand device_streams w.outs (streams_changed_at interface after_sending w.ins) → DeviceStands (record device { device_streams = device_streams }) (after_sending_packet interface w)
-unfolding after_sending_packet
-sent_stands device device_streams w interface stands keeps = stands_streams device device_streams w w.outs (streams_changed_at interface after_sending w.ins) stands keeps
+    → DeviceStreamsStand device_streams w.outs (streams_changed_at interface after_sending_in w.ins) → DeviceStands (record device { device_streams = device_streams }) (after_sending_in_packet interface w)
+unfolding after_sending_in_packet
+sent_stands device device_streams w interface stands keeps = stands_streams device device_streams w w.outs (streams_changed_at interface after_sending_in w.ins) stands keeps
 
-pub settled_stands : (device : DeviceFields) (device_streams : List DeviceStream) (w : DeviceWorld) (interface : ℕ) → DeviceStands device w
-    → DeviceStreamsStand device_streams (streams_changed_at interface settled_out w.outs) (streams_changed_at interface settled_in w.ins) → DeviceStands (record device { device_streams = device_streams }) (after_settling interface w)
-unfolding after_settling
-settled_stands device device_streams w interface stands keeps =
-    stands_streams device device_streams w (streams_changed_at interface settled_out w.outs) (streams_changed_at interface settled_in w.ins) stands keeps
+pub ended_stands : (device : DeviceFields) (device_streams : List DeviceStream) (w : DeviceWorld) (interface : ℕ) → DeviceStands device w
+    → DeviceStreamsStand device_streams (streams_changed_at interface out_after_end w.outs) (streams_changed_at interface in_after_end w.ins) → DeviceStands (record device { device_streams = device_streams }) (after_end interface w)
+unfolding after_end
+ended_stands device device_streams w interface stands keeps =
+    stands_streams device device_streams w (streams_changed_at interface out_after_end w.outs) (streams_changed_at interface in_after_end w.ins) stands keeps
 
 -- what every device keeps, with other streams of the same ports
 pub device_with_streams : (device : DeviceFields) (device_streams : List DeviceStream) → IsDevice device → ports device_streams ≡ ports device.device_streams → IsDevice (record device { device_streams = device_streams })

@@ -16,14 +16,14 @@ use Rattle.uac_graph.specs.Wiring.{AreWiresOf, Frames, frame_on}
 use Rattle.uac_graph.proofs.LinksLemmas.{entity_past, index_or_none}
 use Rattle.uac_graph.proofs.WiringTerminalLemmas.{input_signal}
 use Rattle.uac_flow.specs.FlowStreams.{InStream, OutStream, after_putting, after_taking, is_dry, is_full}
-use Rattle.uac_device_streams.specs.declared.ticking.Ticked.{Ticked}
-use Rattle.uac_device_streams.specs.declared.device_stream.DeviceStream.{DeviceStream}
-use Rattle.uac_device_streams.specs.declared.device_stream.Port.{Port}
-use Rattle.uac_device_streams.specs.InterfaceStreams.{bits_of, changed_where}
+use Rattle.uac_device.specs.declared.ticking.Ticked.{Ticked}
+use Rattle.uac_device.specs.declared.device_stream.DeviceStream.{DeviceStream}
+use Rattle.uac_device.specs.declared.device_stream.Port.{Port}
+use Rattle.uac_device.specs.InterfaceStreams.{set_of_streams, changed_where}
 use Rattle.uac_device.specs.DeviceWorld.{DeviceWorld, entity_in, input_of, is_on, is_streamed, met_of, played_to, after_tick}
 use Rattle.uac_device.specs.DeviceKept.{DeviceFields, IsDevice, DeviceStands}
 use Rattle.uac_device.specs.Linked.{AreLinked}
-use Rattle.uac_device_streams.specs.DeviceStreams.{DeviceStreamsStand, is_found_dry, is_found_full, frame_given_by, met_by, port_of, ports}
+use Rattle.uac_device.specs.DeviceStreams.{DeviceStreamsStand, is_found_dry, is_found_full, frame_given_by, met_by, port_of, ports}
 use Rattle.uac_device.proofs.DeviceWorldInputLemmas.{apart, given_input, given_nothing}
 use Rattle.uac_device.proofs.DeviceWorldLemmas.{Mid, Rendered, outputs_after, tick_stands}
 use Rattle.uac_device.proofs.DeviceKeptStreamLemmas.{own_interface, ports_on, ports_played}
@@ -157,7 +157,7 @@ met_here device w domain numbered is stands =
     streams = w.function.streams
 
     met : List Bool → List Bool → Ticked
-    met under over = record { under = bits_of under; over = bits_of over }
+    met under over = record { under = set_of_streams under; over = set_of_streams over }
 
     dry : StreamInterface → Bool
     dry s = is_on w domain s.number && option_map_or is_dry (w.outs s.number) false

@@ -19,10 +19,10 @@ use Rattle.uac_topology_rules.proofs.ListFindLemmas.{position_is, position_none}
 use Rattle.uac_graph.specs.Meaning.{entity}
 use Rattle.uac_graph.specs.Wiring.{silence}
 use Rattle.uac_flow.specs.FlowStreams.{OutStream, next_taken}
-use Rattle.uac_device_streams.specs.declared.device_stream.Port.{Port}
+use Rattle.uac_device.specs.declared.device_stream.Port.{Port}
 use Rattle.uac_device.specs.DeviceWorld.{DeviceWorld, entity_in, input_of, is_jack, is_streamed, stream_to, streamed_frame}
 use Rattle.uac_device.specs.Linked.{AreLinked}
-use Rattle.uac_device_streams.specs.DeviceStreams.{frame_given, frame_given_by, gives_to, port_of}
+use Rattle.uac_device.specs.DeviceStreams.{frame_given, frame_given_by, gives_to, port_of}
 
 -- no entity is both
 pub apart : (k : EntityKind) → is_input k ≡ true → is_output k ≡ true → ⊥

@@ -30,8 +30,8 @@ use Rattle.uac_alt.specs.declared.settings.InterfaceSetting.{InterfaceSetting}
 use Rattle.uac_device.specs.declared.clocks.DomainClock.{DomainClock}
 use Rattle.uac_entities.specs.declared.stream.StreamInterface.{StreamInterface}
 use Rattle.uac_flow.specs.FlowStreams.{next_taken}
-use Rattle.uac_device_streams.specs.declared.device_stream.DeviceStream.{DeviceStream}
-use Rattle.uac_device_streams.specs.DeviceStreams.{DeviceStreamStands, DeviceStreamsStand, idle_stream, port_of}
+use Rattle.uac_device.specs.declared.device_stream.DeviceStream.{DeviceStream}
+use Rattle.uac_device.specs.DeviceStreams.{DeviceStreamStands, DeviceStreamsStand, idle_stream, port_of}
 use Rattle.uac_device.specs.DeviceWorld.{DeviceWorld, resting_domain, entity_in, fresh, heard_of, input_of, is_input_jack, is_jack, is_output_jack, is_streamed, played_at, renders_of, set_jack, stream_to, streamed_frame, after_tick}
 use Rattle.uac_device.specs.DeviceKept.{DeviceFields, IsDevice, DeviceStands, clock_of}
 use Rattle.uac_device.specs.DeviceTurns.{frames_heard, jacks_of, resting_clock}

@@ -1,3 +1,10 @@
+pub mod ListChangeLemmas
+pub mod DeviceStreamsFlowLemmas
+pub mod DeviceStreamsLemmas
+pub mod DeviceStreamsChangeLemmas
+pub mod DeviceStreamsFrameLemmas
+pub mod DeviceStreamsRunningLemmas
+pub mod DeviceStreamsMetLemmas
 pub mod DeviceWorldInputLemmas
 pub mod LinkedLemmas
 pub mod AltStreamsLemmas

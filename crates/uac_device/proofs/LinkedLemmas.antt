@@ -10,7 +10,7 @@ use Rattle.std.proofs.lemmas.List.Sums.{position_or_len_is}
 use Rattle.std.proofs.lemmas.Option.{slice_get-get_or, slice_get_past}
 use Rattle.uac_descriptor.specs.Standard.{USB_STREAMING}
 use Rattle.uac_descriptor.specs.declared.block.Block as block
-use Rattle.uac_walk.proofs.WalkLemmas.{none_at}
+use Rattle.uac_topology_rules.proofs.WalkLemmas.{none_at}
 use Rattle.uac_entities.specs.Entities.{entities_of}
 use Rattle.uac_entities.specs.EntitySettings.{declared_settings}
 use Rattle.uac_entities.specs.EntityInterfaces.{links_of, entity_by_id, streaming_interface_at, streaming_interface_of, streaming_interfaces_of}

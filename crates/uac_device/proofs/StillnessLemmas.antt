@@ -8,13 +8,13 @@ use Rattle.uac_entities.specs.declared.stream.StreamInterface.{StreamInterface}
 use Rattle.uac_topology_rules.specs.Clusters.{is_input}
 use Rattle.uac_graph.specs.Wiring.{Frames, silence}
 use Rattle.uac_flow.specs.FlowStreams.{OutStream, InStream, after_putting, after_taking, is_dry, is_full, next_taken}
-use Rattle.uac_device_streams.specs.declared.ticking.Ticked.{Ticked}
-use Rattle.uac_device_streams.specs.InterfaceStreams.{NoneRuns, bits_of, changed_where}
+use Rattle.uac_device.specs.declared.ticking.Ticked.{Ticked}
+use Rattle.uac_device.specs.InterfaceStreams.{NoneRuns, set_of_streams, changed_where}
 use Rattle.uac_device.specs.DeviceWorld.{DeviceWorld, entity_in, input_of, is_input_jack, is_jack, is_on, is_streamed, met_of, played_to, set_jack, streamed_frame, after_tick}
 use Rattle.uac_device.specs.DeviceKept.{DeviceFields, IsDevice, DeviceStands}
 use Rattle.uac_topology.specs.FunctionKept.{AreNumbered, HaveChannels}
-use Rattle.uac_device_streams.specs.DeviceStreams.{ports}
-use Rattle.uac_device_streams.specs.declared.device_stream.DeviceStream.{DeviceStream}
+use Rattle.uac_device.specs.DeviceStreams.{ports}
+use Rattle.uac_device.specs.declared.device_stream.DeviceStream.{DeviceStream}
 use Rattle.uac_device.specs.Linked.{AreLinked}
 use Rattle.uac_device.specs.Stillness.{HasBegun, TickHasEnded, IsStill}
 use Rattle.uac_device.proofs.DeviceWorldLemmas.{Rendered, tick_stands}
@@ -37,11 +37,11 @@ streamed_silent w id none = by (find (λ s. s.terminal == id) w.function.streams
 none_where : {S : Type 0} (test : ℕ → Bool) (change : ℕ → S → S) (streams : ℕ → Option S) (k : ℕ) → streams k ≡ None → changed_where test change streams k ≡ None
 none_where test change streams k none = ap (option_map (λ s. if test k then change k s else s)) none
 
-bits_none : (test : StreamInterface → Bool) (streams : List StreamInterface) → ((s : StreamInterface) → test s ≡ false) → bits_of (map test streams) ≡ 0
-unfolding bits_of
+bits_none : (test : StreamInterface → Bool) (streams : List StreamInterface) → ((s : StreamInterface) → test s ≡ false) → set_of_streams (map test streams) ≡ 0
+unfolding set_of_streams
 bits_none test [] none = refl
 bits_none test (s ∷ ss) none =
-    ap (λ (b : Bool). (if b then 1 else 0) + 2 * bits_of (map test ss)) (none s) ∙ ap (λ (n : ℕ). 0 + 2 * n) (bits_none test ss none)
+    ap (λ (b : Bool). (if b then 1 else 0) + 2 * set_of_streams (map test ss)) (none s) ∙ ap (λ (n : ℕ). 0 + 2 * n) (bits_none test ss none)
 
 -- a tick finds nothing
 pub nothing_met : (domain : ℕ) (w : DeviceWorld) → NoneRuns w.outs w.ins → met_of domain w ≡ record { under = 0; over = 0 }
@@ -50,7 +50,7 @@ nothing_met domain w none =
     let dry : StreamInterface → Bool = λ s. is_on w domain s.number && option_map_or is_dry (w.outs s.number) false in
     let full : StreamInterface → Bool = λ s. is_on w domain s.number && option_map_or is_full (w.ins s.number) false in
     let met : ℕ → ℕ → Ticked = λ under over. record { under = under; over = over } in
-    ap (λ (n : ℕ). met n (bits_of (map full w.function.streams)))
+    ap (λ (n : ℕ). met n (set_of_streams (map full w.function.streams)))
     (bits_none dry w.function.streams
     (λ s. ap (λ (o : Option OutStream). is_on w domain s.number && option_map_or is_dry o false) (none s.number).0 ∙ and-false (is_on w domain s.number)))
     ∙ ap (λ (n : ℕ). met 0 n)

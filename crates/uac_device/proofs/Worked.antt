@@ -17,9 +17,9 @@ use Rattle.uac_graph.specs.Meaning.{entity, frame_of, meaning, samples, samples_
 use Rattle.std.specs.Int.{int_wrap}
 use Rattle.uac_pcm.specs.Subslots.{cut_to, sample_of_subslot, subslot_of}
 use Rattle.uac_alt.specs.AltStreams.{StreamFields}
-use Rattle.uac_flow.specs.FlowStreams.{InStream, OutStream, after_packet, after_putting, after_sending, after_taking, arrival_of, feedback_of, is_due, sent_packet, settled_in, settled_out, started_out}
-use Rattle.uac_device_streams.specs.InterfaceStreams.{bits_of}
-use Rattle.uac_device.specs.DeviceWorld.{DeviceWorld, after_advance, feedback_in, input_of, is_due_in, level_of, met_of, next_ticks, after_receiving, after_restart, after_sending_packet, after_settling, step_in, streamed_frame, target_of, after_tick}
+use Rattle.uac_flow.specs.FlowStreams.{InStream, OutStream, after_packet, after_putting, after_sending_in, after_taking, arrival_of, feedback_of, is_due, sent_in_packet, in_after_end, out_after_end, started_out}
+use Rattle.uac_device.specs.InterfaceStreams.{set_of_streams}
+use Rattle.uac_device.specs.DeviceWorld.{DeviceWorld, after_advance, feedback_in, input_of, is_due_in, level_of, met_of, next_ticks, after_receiving, after_restart, after_sending_in_packet, after_end, step_in, streamed_frame, target_of, after_tick}
 use Rattle.uac_ring.specs.declared.arrival.Arrival.TheVariants as arrival
 
 abbrev with : ℕ → EntityKind → ℕ → List ℕ → ℕ → Entity
@@ -108,7 +108,7 @@ plays_silence = refl
 
 -- a terminal whose interface runs no stream gives silence, and meets nothing
 at_rest : (input_of 1 (record (world half one_put) { outs = λ n. None }) 2 ≡ pos 0 ∷ []) × (met_of 1 (record (world half one_put) { outs = λ n. None; ins = λ n. None }) ≡ record { under = 0; over = 0 })
-unfolding input_of streamed_frame met_of bits_of world function entities linked entity at index_of
+unfolding input_of streamed_frame met_of set_of_streams world function entities linked entity at index_of
 at_rest = (refl, refl)
 
 -- in a microframe of its domain a stream counts the ticks, here six at 48,000 Hz; in another's it doesn't
@@ -118,22 +118,22 @@ counts = (refl, refl)
 
 runs_dry : (met_of 1 (after_tick 1 (world half one_put)) ≡ record { under = 1; over = 0 }) × ((after_tick 1 (after_tick 1 (world half one_put))).outs 1
     ≡ Some (record half { arrived = []; taken = 0; target = None }))
-unfolding met_of bits_of after_tick world half one_put function entities linked entity at index_of after_taking after_putting
+unfolding met_of set_of_streams after_tick world half one_put function entities linked entity at index_of after_taking after_putting
 runs_dry = (refl, refl)
 
 -- before that it meets nothing, and a priming stream never does
 met_none : (met_of 1 (world half one_put) ≡ record { under = 0; over = 0 }) × (met_of 1 (world (record priming { arrived = [] }) one_put) ≡ record { under = 0; over = 0 })
-unfolding met_of bits_of world half priming one_put function entities linked entity at index_of
+unfolding met_of set_of_streams world half priming one_put function entities linked entity at index_of
 met_none = (refl, refl)
 
 -- the second interface's ring is full: nothing is put
 met_full : (met_of 1 (world half full) ≡ record { under = 0; over = 2 }) × ((after_tick 1 (world half full)).ins 2 ≡ Some full)
-unfolding met_of bits_of after_tick world half full function entities linked entity at index_of after_putting
+unfolding met_of set_of_streams after_tick world half full function entities linked entity at index_of after_putting
 met_full = (refl, refl)
 
 -- a tick of another domain leaves both
 elsewhere : (met_of 9 (world half full) ≡ record { under = 0; over = 0 }) × ((after_tick 9 (world half full)).outs 1 ≡ Some half) × ((after_tick 9 (world half full)).ins 2 ≡ Some full)
-unfolding met_of bits_of after_tick world half full function entities linked entity at index_of
+unfolding met_of set_of_streams after_tick world half full function entities linked entity at index_of
 elsewhere = (refl, refl, refl)
 
 -- the samples 1 and -2
@@ -157,12 +157,12 @@ unfolding arrival_of after_packet crowded half mono packet
 is_over = (refl, refl)
 
 -- a packet from the device has all that lies in the ring, here one frame; of 14 frames it has the oldest 12
-sends : (sent_packet (record one_put { made = (pos 65536 ∷ []) ∷ [] }) ≡ 1 ∷ 0 ∷ []) × (after_sending one_put ≡ record one_put { gone = 1 })
-unfolding sent_packet after_sending one_put mono cut_to subslot_of
+sends : (sent_in_packet (record one_put { made = (pos 65536 ∷ []) ∷ [] }) ≡ 1 ∷ 0 ∷ []) × (after_sending_in one_put ≡ record one_put { gone = 1 })
+unfolding sent_in_packet after_sending_in one_put mono cut_to subslot_of
 sends = (refl, refl)
 
-sends_most : (after_sending (record one_put { made = map (λ n. pos n ∷ []) (range_with_len 0 14) })).gone ≡ 12
-unfolding after_sending one_put mono
+sends_most : (after_sending_in (record one_put { made = map (λ n. pos n ∷ []) (range_with_len 0 14) })).gone ≡ 12
+unfolding after_sending_in one_put mono
 sends_most = refl
 
 -- with a service interval of two microframes the second and the fourth are due
@@ -171,18 +171,18 @@ unfolding mono
 due = (refl, refl, refl, refl)
 
 -- at the end of a microframe that is due a lost packet is replaced by a zero frame for each tick; else only the count rises
-replaced : (settled_out (record half { lost = true; ticks = 2 }) ≡ record half { microframes = 4; arrived = (pos 5 ∷ []) ∷ (pos 6 ∷ []) ∷ (pos 0 ∷ []) ∷ (pos 0 ∷ []) ∷ []; lost = false; ticks = 0 })
-    × (settled_out (record half { microframes = 4; lost = true; ticks = 2 }) ≡ record half { microframes = 5; lost = true; ticks = 2 })
-    × (settled_out (record half { ticks = 2 }) ≡ record half { microframes = 4 })
-unfolding settled_out half mono
+replaced : (out_after_end (record half { lost = true; ticks = 2 }) ≡ record half { microframes = 4; arrived = (pos 5 ∷ []) ∷ (pos 6 ∷ []) ∷ (pos 0 ∷ []) ∷ (pos 0 ∷ []) ∷ []; lost = false; ticks = 0 })
+    × (out_after_end (record half { microframes = 4; lost = true; ticks = 2 }) ≡ record half { microframes = 5; lost = true; ticks = 2 })
+    × (out_after_end (record half { ticks = 2 }) ≡ record half { microframes = 4 })
+unfolding out_after_end half mono
 replaced = (refl, refl, refl)
 
 -- a stream with a packet in each microframe is primed from 256 frames on, and another from 512 on
 holding : ℕ → ℕ → OutStream
 holding service level = record (started_out (record (mono true) { service = service })) { microframes = 7; arrived = map (λ n. pos n ∷ []) (range_with_len 0 level) }
 
-primes : ((settled_out (holding 1 255)).target ≡ None) × ((settled_out (holding 1 256)).target ≡ Some 256) × ((settled_out (holding 2 511)).target ≡ None) × ((settled_out (holding 2 512)).target ≡ Some 512)
-unfolding settled_out holding mono
+primes : ((out_after_end (holding 1 255)).target ≡ None) × ((out_after_end (holding 1 256)).target ≡ Some 256) × ((out_after_end (holding 2 511)).target ≡ None) × ((out_after_end (holding 2 512)).target ≡ Some 512)
+unfolding out_after_end holding mono
 primes = (refl, refl, refl, refl)
 
 -- no report falls due before the second microframe has ended: 6 frames while the stream is priming, then 1,024 parts more for each frame
@@ -193,9 +193,9 @@ reports = (refl, refl, refl, refl)
 
 -- each of these changes its own interface's stream alone
 by_interface : ((after_receiving 1 None (world half one_put)).outs 1 ≡ Some (record half { lost = true })) × ((after_receiving 2 None (world half one_put)).outs 1 ≡ Some half)
-    × ((after_sending_packet 2 (world half one_put)).ins 2 ≡ Some (record one_put { gone = 1 })) × ((after_settling 2 (world half one_put)).outs 1 ≡ Some half)
-    × ((after_settling 2 (world half one_put)).ins 2 ≡ Some (record one_put { microframes = 2 }))
-unfolding after_receiving after_sending_packet after_settling settled_in after_packet after_sending world half one_put mono
+    × ((after_sending_in_packet 2 (world half one_put)).ins 2 ≡ Some (record one_put { gone = 1 })) × ((after_end 2 (world half one_put)).outs 1 ≡ Some half)
+    × ((after_end 2 (world half one_put)).ins 2 ≡ Some (record one_put { microframes = 2 }))
+unfolding after_receiving after_sending_in_packet after_end in_after_end after_packet after_sending_in world half one_put mono
 by_interface = (refl, refl, refl, refl, refl)
 
 told : (is_due_in (world half one_put) 1 ≡ true) × (is_due_in (world half one_put) 2 ≡ true) × (is_due_in (world half one_put) 3 ≡ false) × (feedback_in (world half one_put) 2 ≡ None)

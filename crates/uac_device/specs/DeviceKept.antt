@@ -13,10 +13,10 @@ use Rattle.uac_alt.specs.AltStreams.{stream_fields}
 use Rattle.uac_alt.specs.declared.settings.InterfaceSetting.{InterfaceSetting}
 use Rattle.uac_graph.specs.Wiring.{Frames, AreWiresOf, frame_on, silence}
 use Rattle.uac_device.specs.declared.clocks.DomainClock.{DomainClock}
-use Rattle.uac_device_streams.specs.declared.device_stream.DeviceStream.{DeviceStream}
+use Rattle.uac_device.specs.declared.device_stream.DeviceStream.{DeviceStream}
 use Rattle.uac_device.specs.declared.streams.Begun.{Begun}
 use Rattle.uac_device.specs.DeviceWorld.{BegunFields, Domain, DeviceWorld, after_control, entity_in, is_jack}
-use Rattle.uac_device_streams.specs.DeviceStreams.{DeviceStreamsStand, port_of, ports}
+use Rattle.uac_device.specs.DeviceStreams.{DeviceStreamsStand, port_of, ports}
 
 -- what a device is seen as: of its clocks it keeps the phase alone, and its frames are those on the wires
 pub record DeviceFields : Type 0 where

@@ -24,16 +24,16 @@ use Rattle.uac_alt.specs.AltSettings.{initial_settings}
 use Rattle.uac_alt.specs.AltStreams.{StreamFields, stream_of}
 use Rattle.uac_request.specs.Requests.{AnswerFields, after_request, request_state, is_done_answer, rate_at, reply_of, sets_interface}
 use Rattle.uac_request.specs.declared.setup.Setup.{Setup}
-use Rattle.uac_flow.specs.FlowStreams.{InStream, OutStream, after_packet, after_putting, after_sending, after_taking, after_ticks}
+use Rattle.uac_flow.specs.FlowStreams.{InStream, OutStream, after_packet, after_putting, after_sending_in, after_taking, after_ticks}
 use Rattle.uac_flow.specs.FlowStreams.{arrival_of}
-use Rattle.uac_flow.specs.FlowStreams.{feedback_of, is_dry, is_full, next_taken, sent_frames, sent_packet, settled_in, settled_out}
+use Rattle.uac_flow.specs.FlowStreams.{feedback_of, is_dry, is_full, next_taken, sent_in_frames, sent_in_packet, in_after_end, out_after_end}
 use Rattle.uac_flow.specs.Flows.{ZerosFit}
 use Rattle.uac_ring.specs.declared.arrival.Arrival.{Arrival}
 use Rattle.uac_ring.specs.declared.arrival.Arrival.TheVariants as arrival
-use Rattle.uac_device_streams.specs.InterfaceStreams.{bits_of, streams_changed_at, changed_where, either_due, in_from, level_in, out_from}
-use Rattle.uac_device_streams.specs.InterfaceStreams.{streams_replaced_at}
-use Rattle.uac_device_streams.specs.InterfaceStreams.{runs_either}
-use Rattle.uac_device_streams.specs.declared.ticking.Ticked.{Ticked}
+use Rattle.uac_device.specs.InterfaceStreams.{set_of_streams, streams_changed_at, changed_where, either_due, in_from, level_in, out_from}
+use Rattle.uac_device.specs.InterfaceStreams.{streams_replaced_at}
+use Rattle.uac_device.specs.InterfaceStreams.{runs_either}
+use Rattle.uac_device.specs.declared.ticking.Ticked.{Ticked}
 
 -- a clock domain: the clock that its terminals name, what that is off by in ppm, and its steps since the start, one
 -- for each microframe, in 65,536ths of a frame
@@ -120,8 +120,8 @@ target_of w interface = option_and_then (λ o. o.target) (w.outs interface)
 unfoldable pub met_of : ℕ → DeviceWorld → Ticked
 met_of domain w =
     record {
-      under = bits_of (map (λ s. is_on w domain s.number && option_map_or is_dry (w.outs s.number) false) w.function.streams);
-      over = bits_of (map (λ s. is_on w domain s.number && option_map_or is_full (w.ins s.number) false) w.function.streams);
+      under = set_of_streams (map (λ s. is_on w domain s.number && option_map_or is_dry (w.outs s.number) false) w.function.streams);
+      over = set_of_streams (map (λ s. is_on w domain s.number && option_map_or is_full (w.ins s.number) false) w.function.streams);
     }
 
 -- ---- clocks
@@ -222,19 +222,19 @@ unfoldable pub arrival_in : DeviceWorld → ℕ → Option (List ℕ) → Arriva
 arrival_in w interface packet = option_map_or (arrival_of packet) (w.outs interface) arrival.Lost
 
 -- the device sends a packet
-unfoldable pub after_sending_packet : ℕ → DeviceWorld → DeviceWorld
-after_sending_packet interface w = at_in interface after_sending w
+unfoldable pub after_sending_in_packet : ℕ → DeviceWorld → DeviceWorld
+after_sending_in_packet interface w = at_in interface after_sending_in w
 
 -- that packet, and the number of its frames; where the interface runs no stream from the device, it is empty
 unfoldable pub packet_in : DeviceWorld → ℕ → List ℕ
-packet_in w interface = option_map_or sent_packet (w.ins interface) []
+packet_in w interface = option_map_or sent_in_packet (w.ins interface) []
 
 unfoldable pub frames_in : DeviceWorld → ℕ → ℕ
-frames_in w interface = option_map_or sent_frames (w.ins interface) 0
+frames_in w interface = option_map_or sent_in_frames (w.ins interface) 0
 
 -- a microframe ends for an interface's stream
-unfoldable pub after_settling : ℕ → DeviceWorld → DeviceWorld
-after_settling interface w = at_in interface settled_in (at_out interface settled_out w)
+unfoldable pub after_end : ℕ → DeviceWorld → DeviceWorld
+after_end interface w = at_in interface in_after_end (at_out interface out_after_end w)
 
 -- an interface runs a stream that has a packet in the next microframe
 unfoldable pub is_due_in : DeviceWorld → ℕ → Bool

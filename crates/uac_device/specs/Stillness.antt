@@ -3,10 +3,10 @@ use Rattle.std.specs.Prelude.{◌≡◌, ℕ, ◌≤◌, ◌==◌, Bool, true, f
 use Rattle.std.specs.List.{All}
 use Rattle.uac_graph.specs.Wiring.{Frames, frame_on, silence}
 use Rattle.uac_flow.specs.FlowStreams.{InStream, OutStream, after_putting, after_taking}
-use Rattle.uac_device_streams.specs.InterfaceStreams.{NoneRuns, changed_where}
-use Rattle.uac_device_streams.specs.DeviceStreams.{DeviceStreamsStand, frame_given_by, met_by, ports}
-use Rattle.uac_device_streams.specs.declared.device_stream.DeviceStream.{DeviceStream}
-use Rattle.uac_device_streams.specs.declared.ticking.Ticked.{Ticked}
+use Rattle.uac_device.specs.InterfaceStreams.{NoneRuns, changed_where}
+use Rattle.uac_device.specs.DeviceStreams.{DeviceStreamsStand, frame_given_by, met_by, ports}
+use Rattle.uac_device.specs.declared.device_stream.DeviceStream.{DeviceStream}
+use Rattle.uac_device.specs.declared.ticking.Ticked.{Ticked}
 use Rattle.uac_device.specs.DeviceWorld.{DeviceWorld, entity_in, is_streamed}
 
 -- no interface runs a stream, and each terminal of the bus in the domain gave silence last

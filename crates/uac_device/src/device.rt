@@ -10,25 +10,26 @@ ghost use Rattle.uac_device.specs.DeviceWorld.{DeviceWorld, ZerosFitIn, after_ad
 ghost use Rattle.uac_device.specs.DeviceWorld.{begun_by, feedback_in};
 ghost use Rattle.uac_device.specs.DeviceWorld.{frames_in, fresh, heard_of, is_due_in, is_input_jack, is_output_jack, level_of, met_of};
 ghost use Rattle.uac_device.specs.DeviceWorld.{next_ticks, packet_in, played_at, after_receiving, renders_of, runs_one};
-ghost use Rattle.uac_device.specs.DeviceWorld.{after_sending_packet, set_jack, after_settling};
+ghost use Rattle.uac_device.specs.DeviceWorld.{after_sending_in_packet, set_jack, after_end};
 ghost use Rattle.uac_device.specs.DeviceWorld.{target_of, after_tick};
 ghost use Rattle.uac_device.specs.DeviceKept.{IsControlled, DeviceStands, begun_fields};
 ghost use Rattle.uac_device.specs.Stillness.{IsStill};
-ghost use Rattle.uac_device_streams.specs.InterfaceStreams.{NoneRuns};
+ghost use Rattle.uac_device.specs.InterfaceStreams.{NoneRuns};
 ghost use Rattle.uac_request.specs.Requests.{answer_fields};
 
 use crate::clocks::{DomainClock, advance, deviate};
 use crate::derived::Derived;
+use crate::device_streams::DeviceStreams;
 use crate::hearing::hear;
-use crate::rest::Rest;
+use crate::parts::DeviceParts;
 use crate::still::{begin_unless, put_unless};
 use crate::streams::{Acted, Begun, holds_setting, stream_asked};
 use crate::terminals::is_output_jack;
+use crate::ticking::Ticked;
 use std::alloc::Global;
 use std::marker::Model;
 use uac_alt::Settings;
 use uac_descriptor::NoMemory;
-use uac_device_streams::{DeviceStreams, Ticked};
 use uac_flow::Arrival;
 use uac_graph::{Graph, Wires};
 use uac_pcm::{Frame, Packet, Tone};
@@ -88,16 +89,16 @@ impl Device {
         ensures { IfOk result (λ device. DeviceStands device (fresh function)) }
     {
         each_interface_starts_with_a_setting();
-        let rest = Rest::new(alloc, &function)?;
+        let parts = DeviceParts::new(alloc, &function)?;
         Ok(Device {
             settings: Settings::new(&function),
             function,
-            store: rest.store,
-            graph: rest.followed.graph,
-            derived: rest.followed.derived,
-            wires: rest.moving.wires,
-            clocks: rest.moving.clocks,
-            device_streams: rest.moving.device_streams,
+            store: parts.store,
+            graph: parts.followed.graph,
+            derived: parts.followed.derived,
+            wires: parts.moving.wires,
+            clocks: parts.moving.clocks,
+            device_streams: parts.moving.device_streams,
         })
     }
 
@@ -181,22 +182,22 @@ impl Device {
     /// Forms the packet that an interface sends: the oldest frames of the ring, as many as fit. Answers their number. It is empty
     /// where the interface runs no stream from the device.
     pub fn microframe_in(&mut self, interface: u8, packet: &mut Packet) -> u32
-        ensures stands { (w : DeviceWorld) → DeviceStands self.old w → DeviceStands self.new (after_sending_packet interface w) }
+        ensures stands { (w : DeviceWorld) → DeviceStands self.old w → DeviceStands self.new (after_sending_in_packet interface w) }
         ensures packet { (w : DeviceWorld) → DeviceStands self.old w → packet.new.items ≡ packet_in w interface }
         ensures frames { (w : DeviceWorld) → DeviceStands self.old w → result ≡ frames_in w interface }
         ensures function { self.new.function ≡ self.old.function }
     {
-        self.device_streams.send(interface, packet)
+        self.device_streams.send_in(interface, packet)
     }
 
     /// A microframe ends for an interface's stream. Where it was due, zeros replace a lost packet, one for each tick of its domain since
     /// the last such microframe, and a stream whose ring has enough frames is primed.
     pub fn settle(&mut self, interface: u8)
         ensures stands { (w : DeviceWorld) → DeviceStands self.old w → ZerosFitIn w interface
-            → DeviceStands self.new (after_settling interface w) }
+            → DeviceStands self.new (after_end interface w) }
         ensures function { self.new.function ≡ self.old.function }
     {
-        self.device_streams.settle(interface);
+        self.device_streams.end_microframe(interface);
     }
 
     /// Answers a control request (Audio Class 2.0, 5.2; USB 2.0, 9.4). `sent` are the bytes that came with it. A stall changes
@@ -270,6 +271,7 @@ impl Device {
     }
 
     /// Sets the frame that an input jack gives at the next tick.
+    /// Tests alone call it: a run gives tones, by `give_tone`.
     pub fn jack(&mut self, terminal: u8, frame: &Frame)
         requires jack { is_input_jack (entity self.old.function.entities terminal) ≡ true }
         requires channels { length frame.now.items ≡ (entity self.old.function.entities terminal).cluster.channels }
@@ -280,19 +282,20 @@ impl Device {
     }
 
     /// Has an input jack give the frame of a tone at a place, which counts frames from 0, at the next tick.
-    pub fn sound(&mut self, terminal: u8, tone: Tone, place: u64)
+    pub fn give_tone(&mut self, terminal: u8, tone: Tone, place: u64)
         requires { is_input_jack (entity self.old.function.entities terminal) ≡ true }
         ensures stands { (w : DeviceWorld) → DeviceStands self.old w
             → DeviceStands self.new
             (set_jack terminal (tone_frame (entity self.old.function.entities terminal).cluster.channels tone place) w) }
         ensures function { self.new.function ≡ self.old.function }
     {
-        self.wires.sound(terminal, tone, place);
+        self.wires.give_tone(terminal, tone, place);
     }
 
     /// One tick of a domain: its terminals of the bus take the next frame of their streams, or silence; its output terminals play the
     /// next frame; the streams from them take it; and the meters hear those of its output jacks, in block order. Each unit that the
     /// domain needs is rendered once, and `steps` counts them. Answers which rings were found empty, and which full.
+    /// Tests alone call it: a run ticks by `tick_where`.
     pub fn tick(
         &mut self,
         domain: u8,

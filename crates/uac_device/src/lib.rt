@@ -1,5 +1,12 @@
-//! A virtual audio device: its controls, its clocks and its signal graph, event by event.
+//! A virtual audio device: its controls, its clocks, its streams and its signal graph, event by event.
 #![tactic(auto)]
+
+/// What is kept of a streaming interface.
+mod device_stream;
+/// What is kept of all of them.
+mod device_streams;
+/// One tick, interface by interface.
+mod ticking;
 
 /// The clocks of the domains.
 mod clocks;
@@ -11,7 +18,7 @@ mod device;
 mod hearing;
 pub mod laws;
 /// What ticks change, at the start.
-mod rest;
+mod parts;
 /// The beginning and the end of a tick in the device's streams.
 mod still;
 /// The stream that a request starts.
@@ -21,7 +28,9 @@ mod terminals;
 
 pub use clocks::DomainClock;
 pub use device::Device;
+pub use device_stream::{DeviceStream, Flow, Port};
+pub use device_streams::DeviceStreams;
 pub use streams::{Acted, Begun};
 pub use terminals::{is_input_jack, is_output_jack, is_output_jack_of};
-pub use uac_device_streams::Ticked;
+pub use ticking::Ticked;
 pub use uac_flow::Arrival;

@@ -3,10 +3,11 @@ ghost use Rattle.std.specs.Prelude.{◌≡◌, ◌≤◌, ℕ, true, false, leng
 ghost use Rattle.std.specs.List.{All};
 ghost use Rattle.std.specs.Option.{option_map};
 ghost use Rattle.uac_graph.specs.Wiring.{frame_on};
-ghost use Rattle.uac_device_streams.specs.DeviceStreams.{IsWiredIn, IsWiredOut, ports};
+ghost use Rattle.uac_device.specs.DeviceStreams.{IsWiredIn, IsWiredOut, ports};
 ghost use Rattle.uac_device.specs.Stillness.{HasBegun, TickHasEnded};
 
-use uac_device_streams::{DeviceStreams, Ticked};
+use crate::device_streams::DeviceStreams;
+use crate::ticking::Ticked;
 use uac_graph::Wires;
 
 /// A tick of a domain begins in the device's streams. Where the device is still nothing changes, and nothing is met.

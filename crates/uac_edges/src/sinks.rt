@@ -43,6 +43,7 @@ impl MemorySink {
     /// An empty sink, which appends at most `cut` bytes in a call, holds at most `room`, and whose
     /// calls of the numbers in `failing` fail. Calls are counted from 1. The memory for `room`
     /// bytes is taken here and none later.
+    /// Tests alone call it.
     pub fn new(
         alloc: Global,
         cut: usize,
@@ -64,6 +65,7 @@ impl MemorySink {
     }
 
     /// The bytes written so far.
+    /// Tests alone call it.
     pub fn bytes_written(&self) -> &[u8]
         ensures { result.now ≡ self.now.written }
     {

@@ -34,6 +34,7 @@ impl Model for MemorySource {
 impl MemorySource {
     /// A source of `bytes`, which moves at most `cut` of them in a call, and whose calls of the
     /// numbers in `failing` fail. Calls are counted from 1.
+    /// Tests alone call it.
     pub fn new(bytes: ByteList, cut: usize, failing: WordList) -> MemorySource
         requires { 1 ≤ cut }
         ensures { result ≡ record { left = bytes; cut = cut; failing = failing; calls = 0; faults = 0 } }

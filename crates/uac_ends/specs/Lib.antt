@@ -3,6 +3,6 @@
 pub mod Outside
 pub mod Outcome
 pub mod Closing
--- What the contracts below them cite: steps of the code, no part of what is promised.
 pub mod Exit
+-- What the contracts below them cite: steps of the code, no part of what is promised.
 pub mod HandingOn

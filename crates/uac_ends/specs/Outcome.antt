@@ -1,6 +1,6 @@
 -- How a run ends, and its last line (profile).
 use Rattle.std.specs.Prelude.{ℕ, List, []}
-use Rattle.uac_sentence.specs.declared.faults.GrammarFault.{GrammarFault}
+use Rattle.uac_grammar_rules.specs.declared.faults.GrammarFault.{GrammarFault}
 use Rattle.uac_topology_rules.specs.declared.fault.TopologyFault.{TopologyFault}
 use Rattle.uac_transcript.specs.Transcript.{Said, spelling_of, says_misread, says_no_memory, says_read_fault, says_refused, says_too_long, says_unsound}
 use Rattle.uac_ends.specs.declared.fault.LineFault.{LineFault}

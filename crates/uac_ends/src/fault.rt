@@ -2,13 +2,13 @@
 use thiserror::Error;
 use uac_descriptor::NoMemory;
 use uac_edges::Failed;
-use uac_sentence::GrammarFault;
+use uac_grammar_rules::GrammarFault;
 use uac_topology_rules::TopologyFault;
 
 /// Why a line of a script, or its end, isn't done.
 #[derive(Clone, Copy, Debug, PartialEq, Eq, Error)]
 pub enum LineFault {
-    /// The line breaks this rule of the script.
+    /// The line breaks this rule of the script; at the end rule 8.
     #[error("the line breaks rule S{0}")]
     Script(u8),
     /// The descriptor has this first fault.

@@ -3,7 +3,7 @@ ghost use Rattle.std.specs.Prelude.{◌≡◌, ◌≤◌, length};
 ghost use Rattle.uac_transcript.specs.Transcript.{offender_text, says_misread, says_refused, says_unsound, spelling_of};
 
 use uac_edges::TextLine;
-use uac_sentence::GrammarFault;
+use uac_grammar_rules::GrammarFault;
 use uac_topology_rules::TopologyFault;
 
 pub const NO_MEMORY: &[u8] = b"no memory\n";

@@ -1,6 +1,6 @@
 -- The descriptor's faults among those for which a line isn't done.
-use Rattle.uac_configuration.specs.declared.fault.DescriptorFault.{DescriptorFault}
-use Rattle.uac_configuration.specs.declared.fault.DescriptorFault.TheVariants as broken
+use Rattle.uac_topology.specs.declared.fault.DescriptorFault.{DescriptorFault}
+use Rattle.uac_topology.specs.declared.fault.DescriptorFault.TheVariants as broken
 use Rattle.uac_fault.specs.declared.fault.BusFault.{BusFault}
 use Rattle.uac_fault.specs.declared.fault.BusFault.TheVariants as faults
 

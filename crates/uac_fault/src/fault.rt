@@ -1,10 +1,9 @@
 // Why a line isn't done.
 use thiserror::Error;
-use uac_configuration::DescriptorFault;
 use uac_descriptor::NoMemory;
 use uac_edges::Failed;
 use uac_grammar::{GrammarFault, ReadStop};
-use uac_topology::TopologyFault;
+use uac_topology::{DescriptorFault, TopologyFault};
 
 /// Why a line of a script isn't done.
 #[derive(Clone, Copy, Debug, PartialEq, Eq, Error)]
@@ -65,7 +64,7 @@ impl From<DescriptorFault> for BusFault {
 
 impl From<ReadStop> for BusFault {
     ghost use Rattle.std.specs.Prelude.{◌≡◌};
-    ghost use Rattle.uac_configuration.specs.ConfigurationVerdict.{fault_of};
+    ghost use Rattle.uac_topology.specs.ConfigurationVerdict.{fault_of};
     ghost use Rattle.uac_fault.specs.DescriptorFaults.{bus_fault_of};
 
     ghost from_gives = { λ stop told. told ≡ bus_fault_of (fault_of stop) };

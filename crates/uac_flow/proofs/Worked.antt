@@ -5,7 +5,7 @@ use Rattle.std.specs.Int.{int_wrap}
 use Rattle.uac_alt.specs.AltStreams.{StreamFields}
 use Rattle.uac_pcm.specs.Subslots.{cut_to, sample_of_subslot, subslot_of}
 use Rattle.uac_flow.specs.Flows.{kept_count}
-use Rattle.uac_flow.specs.FlowStreams.{InStream, OutStream, after_packet, after_putting, after_sending, after_taking, after_ticks, arrival_of, feedback_of, is_dry, is_due, is_full, next_taken, sent_frames, sent_packet, settled_out, started_in, started_out}
+use Rattle.uac_flow.specs.FlowStreams.{InStream, OutStream, after_packet, after_putting, after_sending_in, after_taking, after_ticks, arrival_of, feedback_of, is_dry, is_due, is_full, next_taken, sent_in_frames, sent_in_packet, out_after_end, started_in, started_out}
 use Rattle.uac_ring.specs.declared.arrival.Arrival.TheVariants as arrival
 
 -- mono at 48,000 Hz, in samples of two bytes: 6 frames in a microframe, at most 12 in a packet, a report every second microframe
@@ -76,10 +76,10 @@ last_room = (refl, refl)
 -- ---- zeros for a lost packet
 
 -- as many zero frames as there were ticks, once the microframe is due
-replaced : (settled_out (record half { lost = true; ticks = 2 })
+replaced : (out_after_end (record half { lost = true; ticks = 2 })
     ≡ record half { microframes = 4; arrived = (pos 5 ∷ []) ∷ (pos 6 ∷ []) ∷ (pos 0 ∷ []) ∷ (pos 0 ∷ []) ∷ []; lost = false; ticks = 0 })
-    × (settled_out (record half { microframes = 4; lost = true; ticks = 2 }) ≡ record half { microframes = 5; lost = true; ticks = 2 })
-unfolding settled_out half mono
+    × (out_after_end (record half { microframes = 4; lost = true; ticks = 2 }) ≡ record half { microframes = 5; lost = true; ticks = 2 })
+unfolding out_after_end half mono
 replaced = (refl, refl)
 
 -- the ticks of two microframes add up
@@ -88,27 +88,27 @@ unfolding half
 ticks = refl
 
 -- none where a packet came, and none where it was over
-not_replaced : (settled_out (record half { ticks = 2 }) ≡ record half { microframes = 4 })
-    × ((settled_out (after_packet (Some packet) (record crowded { ticks = 12 }))).arrived ≡ crowded.arrived)
-unfolding settled_out after_packet crowded half mono packet frames
+not_replaced : (out_after_end (record half { ticks = 2 }) ≡ record half { microframes = 4 })
+    × ((out_after_end (after_packet (Some packet) (record crowded { ticks = 12 }))).arrived ≡ crowded.arrived)
+unfolding out_after_end after_packet crowded half mono packet frames
 not_replaced = (refl, refl)
 
 -- ---- priming
 
 -- at 256 frames where a packet comes in each microframe, and else at 512
-primes : ((settled_out (holding 1 255)).target ≡ None) × ((settled_out (holding 1 256)).target ≡ Some 256) × ((settled_out (holding 4 511)).target ≡ None)
-    × ((settled_out (holding 4 512)).target ≡ Some 512) × ((settled_out (holding 4 517)).target ≡ Some 517)
-unfolding settled_out holding mono frames
+primes : ((out_after_end (holding 1 255)).target ≡ None) × ((out_after_end (holding 1 256)).target ≡ Some 256) × ((out_after_end (holding 4 511)).target ≡ None)
+    × ((out_after_end (holding 4 512)).target ≡ Some 512) × ((out_after_end (holding 4 517)).target ≡ Some 517)
+unfolding out_after_end holding mono frames
 primes = (refl, refl, refl, refl, refl)
 
 -- only where the microframe is due; and a target stays
-primes_when_due : ((settled_out (record (holding 4 512) { microframes = 6 })).target ≡ None) × ((settled_out (record (holding 1 300) { target = Some 256 })).target ≡ Some 256)
-unfolding settled_out holding mono frames
+primes_when_due : ((out_after_end (record (holding 4 512) { microframes = 6 })).target ≡ None) × ((out_after_end (record (holding 1 300) { target = Some 256 })).target ≡ Some 256)
+unfolding out_after_end holding mono frames
 primes_when_due = (refl, refl)
 
 -- the zeros for a lost packet count
-primes_by_zeros : (settled_out (record (holding 1 250) { lost = true; ticks = 6 })).target ≡ Some 256
-unfolding settled_out holding mono frames
+primes_by_zeros : (out_after_end (record (holding 1 250) { lost = true; ticks = 6 })).target ≡ Some 256
+unfolding out_after_end holding mono frames
 primes_by_zeros = refl
 
 -- ---- ticks
@@ -140,15 +140,15 @@ puts = (refl, refl, refl, refl)
 -- ---- packets from the device
 
 -- all that lies in the ring, here 6 frames, but at most 12
-sends : (sent_frames (made 6) ≡ 6) × ((after_sending (made 6)).gone ≡ 6) × (sent_frames (made 14) ≡ 12) × ((after_sending (made 14)).gone ≡ 12)
-    × (sent_frames (after_sending (made 14)) ≡ 2)
-unfolding after_sending made mono frames
+sends : (sent_in_frames (made 6) ≡ 6) × ((after_sending_in (made 6)).gone ≡ 6) × (sent_in_frames (made 14) ≡ 12) × ((after_sending_in (made 14)).gone ≡ 12)
+    × (sent_in_frames (after_sending_in (made 14)) ≡ 2)
+unfolding after_sending_in made mono frames
 sends = (refl, refl, refl, refl, refl)
 
 -- the oldest first
-sent_bytes : (sent_packet (record (started_in (mono 1 false)) { made = (pos 65536 ∷ []) ∷ (negsuc 131071 ∷ []) ∷ [] }) ≡ 1 ∷ 0 ∷ 254 ∷ 255 ∷ [])
-    × (sent_packet (started_in (mono 1 false)) ≡ [])
-unfolding sent_packet mono cut_to subslot_of
+sent_bytes : (sent_in_packet (record (started_in (mono 1 false)) { made = (pos 65536 ∷ []) ∷ (negsuc 131071 ∷ []) ∷ [] }) ≡ 1 ∷ 0 ∷ 254 ∷ 255 ∷ [])
+    × (sent_in_packet (started_in (mono 1 false)) ≡ [])
+unfolding sent_in_packet mono cut_to subslot_of
 sent_bytes = (refl, refl)
 
 -- ---- feedback

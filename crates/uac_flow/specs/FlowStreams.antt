@@ -74,14 +74,14 @@ after_packet (Some packet) o =
     record o { lost = false; arrived = if takes_all o packet then o.arrived ++ frames_of o.stream packet else o.arrived }
 
 -- a packet from the device has the frames of the ring, but at most so many as fit
-abbrev pub sent_frames : InStream → ℕ
-sent_frames i = min (in_level i) i.stream.most
+abbrev pub sent_in_frames : InStream → ℕ
+sent_in_frames i = min (in_level i) i.stream.most
 
-unfoldable pub sent_packet : InStream → List ℕ
-sent_packet i = bytes_of_frames i.stream.subslot i.stream.bits (take (sent_frames i) (drop i.gone i.made))
+unfoldable pub sent_in_packet : InStream → List ℕ
+sent_in_packet i = bytes_of_frames i.stream.subslot i.stream.bits (take (sent_in_frames i) (drop i.gone i.made))
 
-unfoldable pub after_sending : InStream → InStream
-after_sending i = record i { gone = i.gone + sent_frames i }
+unfoldable pub after_sending_in : InStream → InStream
+after_sending_in i = record i { gone = i.gone + sent_in_frames i }
 
 -- ---- ticks
 
@@ -134,15 +134,15 @@ abbrev pub after_priming : OutStream → OutStream
 after_priming o = record o { target = target_after o.target (out_level o) o.stream }
 
 -- what the end of a microframe in which it was due makes of a stream
-abbrev pub settled_when_due : OutStream → OutStream
-settled_when_due o = record (after_priming (with_zeros o)) { lost = false; ticks = 0 }
+abbrev pub after_due_end : OutStream → OutStream
+after_due_end o = record (after_priming (with_zeros o)) { lost = false; ticks = 0 }
 
 -- a stream to the device, and one from it, at the end of a microframe
-unfoldable pub settled_out : OutStream → OutStream
-settled_out o = record (if is_due o.stream o.microframes then settled_when_due o else o) { microframes = o.microframes + 1 }
+unfoldable pub out_after_end : OutStream → OutStream
+out_after_end o = record (if is_due o.stream o.microframes then after_due_end o else o) { microframes = o.microframes + 1 }
 
-unfoldable pub settled_in : InStream → InStream
-settled_in i = record i { microframes = i.microframes + 1 }
+unfoldable pub in_after_end : InStream → InStream
+in_after_end i = record i { microframes = i.microframes + 1 }
 
 -- ---- feedback
 

@@ -4,7 +4,7 @@ ghost use Rattle.uac_alt.specs.AltStreams.{stream_fields};
 ghost use Rattle.uac_ring.specs.Rings.{ring_frames};
 ghost use Rattle.uac_flow.specs.Flows.{CanRun, IsInFlow, InStands};
 ghost use Rattle.uac_flow.specs.FlowStreams as spec;
-ghost use Rattle.uac_flow.specs.FlowStreams.{InStream, after_putting, after_sending, sent_frames, sent_packet, settled_in, started_in};
+ghost use Rattle.uac_flow.specs.FlowStreams.{InStream, after_putting, after_sending_in, sent_in_frames, sent_in_packet, in_after_end, started_in};
 
 use crate::counting::{is_due, next_count};
 use crate::frames::take_frames;
@@ -35,12 +35,12 @@ impl InFlow {
     }
 
     /// Moves the oldest frames of the ring, as many as fit, into a packet in place of its bytes, and answers their number.
-    #[tactic(auto, unfolding(crate::specs::FlowStreams::after_sending, crate::specs::FlowStreams::sent_packet))]
-    pub fn send(&self, ring: &mut Ring, packet: &mut Packet) -> u32
+    #[tactic(auto, unfolding(crate::specs::FlowStreams::after_sending_in, crate::specs::FlowStreams::sent_in_packet))]
+    pub fn send_in(&self, ring: &mut Ring, packet: &mut Packet) -> u32
         requires sound { IsInFlow ring.old self.now }
-        ensures stands { (i : InStream) → InStands ring.old self.now i → InStands ring.new self.now (after_sending i) }
-        ensures packet { (i : InStream) → InStands ring.old self.now i → packet.new.items ≡ sent_packet i }
-        ensures frames { (i : InStream) → InStands ring.old self.now i → result ≡ sent_frames i }
+        ensures stands { (i : InStream) → InStands ring.old self.now i → InStands ring.new self.now (after_sending_in i) }
+        ensures packet { (i : InStream) → InStands ring.old self.now i → packet.new.items ≡ sent_in_packet i }
+        ensures frames { (i : InStream) → InStands ring.old self.now i → result ≡ sent_in_frames i }
         ensures sound { IsInFlow ring.new self.now }
     {
         let count = ring.level().min(self.stream.most);
@@ -76,10 +76,10 @@ impl InFlow {
     }
 
     /// The end of a microframe.
-    #[tactic(auto, unfolding(crate::specs::FlowStreams::settled_in))]
-    pub fn settle(&mut self)
+    #[tactic(auto, unfolding(crate::specs::FlowStreams::in_after_end))]
+    pub fn end_microframe(&mut self)
         requires { self.old.microframes ≤ 8 }
-        ensures stands { (ring : List (List ℤ)) (i : InStream) → InStands ring self.old i → InStands ring self.new (settled_in i) }
+        ensures stands { (ring : List (List ℤ)) (i : InStream) → InStands ring self.old i → InStands ring self.new (in_after_end i) }
         ensures sound { (ring : List (List ℤ)) → IsInFlow ring self.old → IsInFlow ring self.new }
         ensures stream { self.new.stream ≡ self.old.stream }
     {

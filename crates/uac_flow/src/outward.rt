@@ -7,7 +7,7 @@ ghost use Rattle.uac_ring.specs.Rings.{ring_frames};
 ghost use Rattle.uac_flow.specs.Flows.{CanRun, IsOutFlow, OutStands, ZerosFit};
 ghost use Rattle.uac_flow.specs.FlowStreams as spec;
 ghost use Rattle.uac_flow.specs.FlowStreams.{OutStream, after_packet, after_taking, arrival_of, feedback_of, next_taken, out_level};
-ghost use Rattle.uac_flow.specs.FlowStreams.{settled_out, settled_when_due, started_out, zeros_due};
+ghost use Rattle.uac_flow.specs.FlowStreams.{out_after_end, after_due_end, started_out, zeros_due};
 
 use crate::counting::{is_due, next_count, reports_now};
 use crate::frames::{put_frames, put_zeros};
@@ -150,24 +150,24 @@ impl OutFlow {
     }
 
     /// The end of a microframe. Where it was due, zeros replace a lost packet, and a stream whose ring has enough frames is primed.
-    pub fn settle(&mut self, ring: &mut Ring)
+    pub fn end_microframe(&mut self, ring: &mut Ring)
         requires sound { IsOutFlow ring.old self.old }
-        ensures stands { (o : OutStream) → OutStands ring.old self.old o → ZerosFit o → OutStands ring.new self.new (settled_out o) }
+        ensures stands { (o : OutStream) → OutStands ring.old self.old o → ZerosFit o → OutStands ring.new self.new (out_after_end o) }
         ensures sound { IsOutFlow ring.new self.new }
         ensures stream { self.new.stream ≡ self.old.stream }
     {
         let is_due = self.is_due();
         self.microframes = next_count(self.microframes);
         if is_due {
-            self.settle_packet(ring);
+            self.end_interval(ring);
         }
     }
 
     // The end of a microframe in which it was due.
-    fn settle_packet(&mut self, ring: &mut Ring)
+    fn end_interval(&mut self, ring: &mut Ring)
         requires sound { IsOutFlow ring.old self.old }
         ensures stands { (o : OutStream) → OutStands ring.old self.old o → out_level o + length (zeros_due o) ≤ ring_frames
-            → OutStands ring.new self.new (settled_when_due o) }
+            → OutStands ring.new self.new (after_due_end o) }
         ensures sound { IsOutFlow ring.new self.new }
         ensures stream { self.new.stream ≡ self.old.stream }
     {

@@ -5,9 +5,9 @@ pub mod ReportsLemmas
 pub mod RoomLemmas
 pub mod RunLemmas
 pub mod SumsLemmas
-pub mod TellingLemmas
 pub mod StepsLemmas
 pub mod WorldLemmas
 pub mod PromiseLemmas
+pub mod MachineLemmas
 mod Worked
 mod WorkedBench

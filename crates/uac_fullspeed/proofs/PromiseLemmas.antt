@@ -8,17 +8,19 @@ use Rattle.uac_rate.specs.Levels.{Within}
 use Rattle.uac_rate.specs.Steadiness.{SteadyHistory, is_slight, run, has_four_lost, latest_run, one_more, with_report_given, with_deviation_given, is_steady, loses_few_reports, eight_streams}
 use Rattle.uac_units.specs.Hearing.{at_most_u64}
 use Rattle.uac_script.specs.Phrase.{PhraseMark, Phrase, nothing_line, bytes_line, go_line, control_line, get_line, set_line, show_line, break_line, append_line, track_line, jack_line, deviate_line, microframes_line, detail_line, report_line}
+use Rattle.uac_script.specs.Losses.{is_at}
 use Rattle.uac_ring.specs.declared.arrival.Arrival.{Arrival}
 use Rattle.uac_ring.specs.declared.arrival.Arrival.TheVariants as arrivals
 use Rattle.uac_ring.specs.declared.counts.StreamCounts.{StreamCounts}
-use Rattle.uac_transcript.specs.Transcript.{Said, says_time, says_out, says_over, says_under, says_played, says_level, says_passed, says_steady, says_domain}
+use Rattle.uac_transcript.specs.Transcript.{Said, says_microframe, says_out, says_over, says_under, says_played, says_level, says_time, says_steady, says_domain}
 use Rattle.uac_bench.specs.BenchStreams.{StreamWorld, stream_start, level_of, arrives_by, arrival_of, numbered, ticked_by, after_tick, after_ticks, with_zeros, is_dry, is_dry_by, played_in}
 use Rattle.uac_bench.proofs.FramesLemmas.{length-numbered}
 use Rattle.uac_fullspeed.specs.FullSpeedNominal.{is_fs_listed, fs_values_of, fs_nominal_of, IsFsNominal}
 use Rattle.uac_fullspeed.specs.FullSpeedBands.{FsLeavesRoom, FsMoment}
-use Rattle.uac_fullspeed.specs.FullSpeedWorld.{FullSpeedWorld, full_speed_start, is_steady_in, size_next, step_next, ticks_next, at_ticks, ticked, replaced_by, settled, passed, before_report, is_report_due, report_in, report_given, reported_if, after_report, bus_frame, bus_frames, with_deviation, with_detail}
-use Rattle.uac_fullspeed.specs.FullSpeedLines.{FsLine, says_as_run, says_report, says_stream, if_at, number_lines, over_lines, packet_lines, tick_lines, ticks_lines, level_lines, report_lines_if, stream_lines, lines_before_report, report_lines, frame_lines, frames_lines, state_lines}
-use Rattle.uac_fullspeed.specs.FullSpeedSteps.{FsStep, fs_done, fs_refused, fs_step, FsAfter, fs_after, fs_and_then, natural_of_int, loses_packet, loses_report, is_one, is_of_stream, unless, frames_step}
+use Rattle.uac_fullspeed.specs.FullSpeedWorld.{FullSpeedWorld, full_speed_start, is_steady_in, size_next, step_next, ticks_next, at_ticks, ticked, replaced_by, after_frame, passed, before_feedback, is_feedback_due, feedback_in, feedback_given, feedback_if, after_feedback, bus_frame, bus_frames, with_deviation, with_detail}
+use Rattle.uac_bench.specs.BenchLines.{if_said, over_lines, arrival_lines}
+use Rattle.uac_fullspeed.specs.FullSpeedLines.{FsLine, says_as_run, says_fs_feedback, says_stream, as_run, frame_number, ticks_lines, level_lines, feedback_lines_if, stream_lines, lines_before_feedback, feedback_lines, frame_lines, frames_lines, state_lines}
+use Rattle.uac_fullspeed.specs.FullSpeedSteps.{FsStep, fs_done, fs_refused, fs_step, FsAfter, fs_after, fs_and_then, natural_of_int, loses_packet, loses_feedback, is_of_stream, unless, frames_step}
 use Rattle.uac_fullspeed.specs.FullSpeedPromise.{IsFsNear, HasMetNone, IsFsKept, IsFsSafe, IsMoment, IsKeptLine, Happening, bus_frame_passed, line_done, frames_passed, happens_in, and_then_happens, happenings, lines_in, IsKeptFrame, IsKept, IsFsPromised}
 use Rattle.uac_fullspeed.proofs.BandsLemmas.{leaves_room, fs_listed, fs_near, fs_tight_near, fs_moment}
 use Rattle.uac_fullspeed.proofs.SumsLemmas.{last_by_remainder}
@@ -59,8 +61,8 @@ older_keeps lost (latest ∷ earlier) rest h = by (nat_lt 3 (run (lost ∷ lates
   by true b c h = absurd (cc)
   by false b c h = h
 
-report_before : (lost : Bool) (h : SteadyHistory) → is_steady (with_report_given 0 lost h) ≡ true → is_steady h ≡ true
-report_before lost h steady =
+feedback_before : (lost : Bool) (h : SteadyHistory) → is_steady (with_report_given 0 lost h) ≡ true → is_steady h ≡ true
+feedback_before lost h steady =
     let both = and_parts (list_all is_slight h.deviations) _ steady in
     let rest = older_keeps lost (h.feedback 0) _ both.1 in
     ap (λ (b : Bool). b && loses_few_reports h.feedback eight_streams) both.0 ∙ rest
@@ -73,18 +75,18 @@ deviation_before ppm h steady = by (is_slight ppm) (list_all is_slight h.deviati
 
 -- ---- what a frame keeps of the world before it
 
-history_kept : (lost : Bool) (w : FullSpeedWorld) → (before_report lost w).history.feedback 0 ≡ w.history.feedback 0
-unfolding before_report passed
+history_kept : (lost : Bool) (w : FullSpeedWorld) → (before_feedback lost w).history.feedback 0 ≡ w.history.feedback 0
+unfolding before_feedback passed
 history_kept lost w = refl
 
-if_before : (due lost : Bool) (value : ℕ) (w : FullSpeedWorld) → is_steady_in (reported_if due lost value w) ≡ true → is_steady_in w ≡ true
+if_before : (due lost : Bool) (value : ℕ) (w : FullSpeedWorld) → is_steady_in (feedback_if due lost value w) ≡ true → is_steady_in w ≡ true
 if_before false lost value w h = h
-if_before true true value w h = report_before true w.history h
-if_before true false value w h = report_before false w.history h
+if_before true true value w h = feedback_before true w.history h
+if_before true false value w h = feedback_before false w.history h
 
 pub frame_before : (packet_lost report_lost : Bool) (w : FullSpeedWorld) → is_steady_in (bus_frame packet_lost report_lost w) ≡ true → is_steady_in w ≡ true
-unfolding bus_frame after_report before_report passed
-frame_before packet_lost report_lost w h = if_before (is_report_due (before_report packet_lost w)) report_lost (report_in (before_report packet_lost w)) (before_report packet_lost w) h
+unfolding bus_frame after_feedback before_feedback passed
+frame_before packet_lost report_lost w h = if_before (is_feedback_due (before_feedback packet_lost w)) report_lost (feedback_in (before_feedback packet_lost w)) (before_feedback packet_lost w) h
 
 pub frames_before : (count : ℕ) (packet_lost report_lost : Bool) (w : FullSpeedWorld) → is_steady_in (bus_frames count packet_lost report_lost w) ≡ true → is_steady_in w ≡ true
 unfolding bus_frames
@@ -98,14 +100,14 @@ record LeavesStream (w v : FullSpeedWorld) : Type 0 where
   pub level : level_of v.stream ≡ level_of w.stream
   pub whole : v.whole ≡ w.whole
 
-if_leaves : (due lost : Bool) (value : ℕ) (w : FullSpeedWorld) → LeavesStream w (reported_if due lost value w)
+if_leaves : (due lost : Bool) (value : ℕ) (w : FullSpeedWorld) → LeavesStream w (feedback_if due lost value w)
 if_leaves false lost value w = record { target = refl; level = refl; whole = refl }
 if_leaves true true value w = record { target = refl; level = refl; whole = refl }
 if_leaves true false value w = record { target = refl; level = refl; whole = refl }
 
-frame_leaves : (packet_lost report_lost : Bool) (w : FullSpeedWorld) → LeavesStream (before_report packet_lost w) (bus_frame packet_lost report_lost w)
-unfolding bus_frame after_report
-frame_leaves packet_lost report_lost w = if_leaves (is_report_due (before_report packet_lost w)) report_lost (report_in (before_report packet_lost w)) (before_report packet_lost w)
+frame_leaves : (packet_lost report_lost : Bool) (w : FullSpeedWorld) → LeavesStream (before_feedback packet_lost w) (bus_frame packet_lost report_lost w)
+unfolding bus_frame after_feedback
+frame_leaves packet_lost report_lost w = if_leaves (is_feedback_due (before_feedback packet_lost w)) report_lost (feedback_in (before_feedback packet_lost w)) (before_feedback packet_lost w)
 
 -- ---- near
 
@@ -234,13 +236,13 @@ module _ (w : FullSpeedWorld) (waited : ℕ) (good : Good w waited) (short : wai
       safe_at w waited u (level_of v) (ticks_next w) zeros good (primed_of u primed) (omega arith) (inr few)
       (omega (arith, m.arrived, m.played, sent_is.arrived, sent_is.played, z.arrived, z.played))
 
-  stream_before : (before_report packet_lost w).stream ≡ settled packet_lost (size_next w) (ticks_next w) w.stream
-  unfolding before_report
+  stream_before : (before_feedback packet_lost w).stream ≡ after_frame packet_lost (size_next w) (ticks_next w) w.stream
+  unfolding before_feedback
   stream_before = refl
 
-  at_end : (v : StreamWorld) → v ≡ settled packet_lost (size_next w) (ticks_next w) w.stream → IsFsSafe v
+  at_end : (v : StreamWorld) → v ≡ after_frame packet_lost (size_next w) (ticks_next w) w.stream → IsFsSafe v
   at_end v is t some =
-      let u : FullSpeedWorld = before_report packet_lost w in
+      let u : FullSpeedWorld = before_feedback packet_lost w in
       let after = before_good w waited packet_lost short good in
       let same : v ≡ u.stream = is ∙ sym stream_before in
       let primed : IsPrimed u t (suc waited) = subst (λ (o : Option ℕ). KeptBy o u (suc waited)) (ap (λ (s : StreamWorld). s.target) (sym same) ∙ some) after.kept in
@@ -278,12 +280,20 @@ all_append : {A : Type 0} (P : A → Type 0) (xs ys : List A) → AllByRecursion
 all_append P [] ys a b = b
 all_append P (x ∷ xs) ys a b = (a.0, all_append P xs ys a.1 b)
 
-all_if : (P : FsLine → Type 0) (b : Bool) (line : FsLine) → P line → AllByRecursion P (if_at b line)
+all_if : {A : Type 0} (P : A → Type 0) (b : Bool) (line : A) → P line → AllByRecursion P (if_said b (line ∷ []))
 all_if P true line p = (p, tt)
 all_if P false line p = tt
 
-kept_time : (whole : Bool) (n : ℕ) → IsKeptLine whole (says_as_run (says_time n))
-kept_time whole n = record { no_under = λ i e. cc; no_over = λ i e. cc; level = λ i l t e. absurd (cc); stream = λ l t m e. absurd (cc) }
+-- a line that a run has, too
+abbrev IsKeptSaid : Bool → Said → Type 0
+IsKeptSaid whole said = IsKeptLine whole (says_as_run said)
+
+all_as_run : (whole : Bool) (saids : List Said) → AllByRecursion (IsKeptSaid whole) saids → AllByRecursion (IsKeptLine whole) (as_run saids)
+all_as_run whole [] all = tt
+all_as_run whole (said ∷ saids) all = (all.0, all_as_run whole saids all.1)
+
+kept_microframe : (whole : Bool) (n : ℕ) → IsKeptLine whole (says_as_run (says_microframe n))
+kept_microframe whole n = record { no_under = λ i e. cc; no_over = λ i e. cc; level = λ i l t e. absurd (cc); stream = λ l t m e. absurd (cc) }
 
 kept_out : (whole : Bool) (i n : ℕ) (a : Arrival) → IsKeptLine whole (says_as_run (says_out i n a))
 kept_out whole i n a = record { no_under = λ j e. cc; no_over = λ j e. cc; level = λ j l t e. absurd (cc); stream = λ l t m e. absurd (cc) }
@@ -291,8 +301,8 @@ kept_out whole i n a = record { no_under = λ j e. cc; no_over = λ j e. cc; lev
 kept_played : (whole : Bool) (i : ℕ) (frame : List ℤ) → IsKeptLine whole (says_as_run (says_played i frame))
 kept_played whole i frame = record { no_under = λ j e. cc; no_over = λ j e. cc; level = λ j l t e. absurd (cc); stream = λ l t m e. absurd (cc) }
 
-kept_passed : (whole : Bool) (n : ℕ) → IsKeptLine whole (says_as_run (says_passed n))
-kept_passed whole n = record { no_under = λ i e. cc; no_over = λ i e. cc; level = λ i l t e. absurd (cc); stream = λ l t m e. absurd (cc) }
+kept_time : (whole : Bool) (n : ℕ) → IsKeptLine whole (says_as_run (says_time n))
+kept_time whole n = record { no_under = λ i e. cc; no_over = λ i e. cc; level = λ i l t e. absurd (cc); stream = λ l t m e. absurd (cc) }
 
 kept_steady : (whole b : Bool) → IsKeptLine whole (says_as_run (says_steady b))
 kept_steady whole b = record { no_under = λ i e. cc; no_over = λ i e. cc; level = λ i l t e. absurd (cc); stream = λ l t m e. absurd (cc) }
@@ -300,8 +310,8 @@ kept_steady whole b = record { no_under = λ i e. cc; no_over = λ i e. cc; leve
 kept_domain : (whole : Bool) (i : ℕ) (rate : Option ℕ) (n : ℕ) → IsKeptLine whole (says_as_run (says_domain i rate n))
 kept_domain whole i rate n = record { no_under = λ j e. cc; no_over = λ j e. cc; level = λ j l t e. absurd (cc); stream = λ l t m e. absurd (cc) }
 
-kept_report : (whole : Bool) (value : ℕ) (lost : Bool) → IsKeptLine whole (says_report value lost)
-kept_report whole value lost = record { no_under = λ i e. cc; no_over = λ i e. cc; level = λ i l t e. absurd (cc); stream = λ l t m e. absurd (cc) }
+kept_feedback : (whole : Bool) (value : ℕ) (lost : Bool) → IsKeptLine whole (says_fs_feedback value lost)
+kept_feedback whole value lost = record { no_under = λ i e. cc; no_over = λ i e. cc; level = λ i l t e. absurd (cc); stream = λ l t m e. absurd (cc) }
 
 kept_level : (whole : Bool) (n : ℕ) (o : Option ℕ) → IsFsNear o n whole → IsKeptLine whole (says_as_run (says_level 1 n o))
 kept_level whole n o near = record {
@@ -326,67 +336,69 @@ kept_stream whole n o met near none = record {
       (subst (λ (x : Option ℕ). IsFsNear x l whole) a (subst (λ (k : ℕ). IsFsNear o k whole) b near), subst HasMetNone d none);
 }
 
-ticks_kept : (whole : Bool) (detail count : ℕ) (s : StreamWorld) → Quiet s count → AllByRecursion (IsKeptLine whole) (ticks_lines count detail s)
+ticks_kept : (whole : Bool) (detail count : ℕ) (s : StreamWorld) → Quiet s count → AllByRecursion (IsKeptSaid whole) (ticks_lines count detail s)
 unfolding ticks_lines after_tick is_dry
 ticks_kept whole detail zero s quiet = tt
 ticks_kept whole detail (suc count) s quiet =
     from s.target (drop s.played s.arrived) refl (length-drop s.played s.arrived) quiet (λ v q. ticks_kept whole detail count v q) where
       from : (o : Option ℕ) (waiting : List (List ℤ)) → s.target ≡ o → length waiting ≡ length s.arrived - s.played → Quiet s (suc count)
-          → ((v : StreamWorld) → Quiet v count → AllByRecursion (IsKeptLine whole) (ticks_lines count detail v))
-          → AllByRecursion (IsKeptLine whole) ((if_at (is_dry_by o waiting) (says_as_run (says_under 1)) ++ if_at (nat_le 1 detail) (says_as_run (says_played 1 (played_in s)))) ++ ticks_lines count detail (ticked_by o waiting s))
+          → ((v : StreamWorld) → Quiet v count → AllByRecursion (IsKeptSaid whole) (ticks_lines count detail v))
+          → AllByRecursion (IsKeptSaid whole) ((if_said (is_dry_by o waiting) (says_under 1 ∷ []) ++ if_said (nat_le 1 detail) (says_played 1 (played_in s) ∷ [])) ++ ticks_lines count detail (ticked_by o waiting s))
       from None waiting is long q rest =
-          all_append (IsKeptLine whole) (if_at (nat_le 1 detail) (says_as_run (says_played 1 (played_in s)))) (ticks_lines count detail s)
-          (all_if (IsKeptLine whole) (nat_le 1 detail) (says_as_run (says_played 1 (played_in s))) (kept_played whole 1 (played_in s))) (rest s (inl is))
+          all_append (IsKeptSaid whole) (if_said (nat_le 1 detail) (says_played 1 (played_in s) ∷ [])) (ticks_lines count detail s)
+          (all_if (IsKeptSaid whole) (nat_le 1 detail) (says_played 1 (played_in s)) (kept_played whole 1 (played_in s))) (rest s (inl is))
       from (Some t) [] is long (inl none) rest = absurd (none_stays s t none is)
       from (Some t) [] is long (inr enough) rest = absurd (let none : ⊥ = omega arith in none)
       from (Some t) (frame ∷ more) is long (inl none) rest = absurd (none_stays s t none is)
       from (Some t) (frame ∷ more) is long (inr enough) rest =
-          all_append (IsKeptLine whole) (if_at (nat_le 1 detail) (says_as_run (says_played 1 (played_in s)))) (ticks_lines count detail (record s { played = suc s.played }))
-          (all_if (IsKeptLine whole) (nat_le 1 detail) (says_as_run (says_played 1 (played_in s))) (kept_played whole 1 (played_in s)))
+          all_append (IsKeptSaid whole) (if_said (nat_le 1 detail) (says_played 1 (played_in s) ∷ [])) (ticks_lines count detail (record s { played = suc s.played }))
+          (all_if (IsKeptSaid whole) (nat_le 1 detail) (says_played 1 (played_in s)) (kept_played whole 1 (played_in s)))
           (rest (record s { played = suc s.played }) (let fewer : suc s.played + count ≤ length s.arrived = omega arith in inr fewer))
 
-over_kept : (whole : Bool) (a : Arrival) → a ≢ arrivals.Over → AllByRecursion (IsKeptLine whole) (over_lines a)
+over_kept : (whole : Bool) (a : Arrival) → a ≢ arrivals.Over → AllByRecursion (IsKeptSaid whole) (over_lines a)
 over_kept whole arrivals.Taken never = tt
 over_kept whole arrivals.Lost never = tt
 over_kept whole arrivals.Over never = absurd (never refl)
 
-report_kept_if : (whole due : Bool) (detail : ℕ) (lost : Bool) (value : ℕ) → AllByRecursion (IsKeptLine whole) (report_lines_if due detail lost value)
-report_kept_if whole false detail lost value = tt
-report_kept_if whole true detail lost value = all_if (IsKeptLine whole) (nat_le 2 detail) (says_report value lost) (kept_report whole value lost)
+feedback_kept_if : (whole due : Bool) (detail : ℕ) (lost : Bool) (value : ℕ) → AllByRecursion (IsKeptLine whole) (feedback_lines_if due detail lost value)
+feedback_kept_if whole false detail lost value = tt
+feedback_kept_if whole true detail lost value = all_if (IsKeptLine whole) (nat_le 2 detail) (says_fs_feedback value lost) (kept_feedback whole value lost)
 
-stream_kept : (w : FullSpeedWorld) (waited : ℕ) (good : Good w waited) → waited ≤ 7 → (packet_lost whole : Bool) → whole ≡ (before_report packet_lost w).whole
-    → AllByRecursion (IsKeptLine whole) (stream_lines w.detail packet_lost (size_next w) (ticks_next w) w.stream)
+stream_kept : (w : FullSpeedWorld) (waited : ℕ) (good : Good w waited) → waited ≤ 7 → (packet_lost whole : Bool) → whole ≡ (before_feedback packet_lost w).whole
+    → AllByRecursion (IsKeptSaid whole) (stream_lines w.detail packet_lost (size_next w) (ticks_next w) w.stream)
 unfolding stream_lines
 stream_kept w waited good short packet_lost whole same =
-    let P : FsLine → Type 0 = IsKeptLine whole in
+    let P : Said → Type 0 = IsKeptSaid whole in
     let size = size_next w in
     let arrival = arrival_of 1024 packet_lost (size_next w) w.stream in
-    let u : FullSpeedWorld = before_report packet_lost w in
+    let u : FullSpeedWorld = before_feedback packet_lost w in
     let after = before_good w waited packet_lost short good in
     let near : IsFsNear u.stream.target (level_of u.stream) whole =
     subst (λ (b : Bool). IsFsNear u.stream.target (level_of u.stream) b) (sym same) (near_by u (suc waited) u.stream.target (leaves_room u.nominal after.nominal) after.kept) in
-    let ends : IsFsNear (settled packet_lost (size_next w) (ticks_next w) w.stream).target (level_of (settled packet_lost (size_next w) (ticks_next w) w.stream)) whole =
+    let ends : IsFsNear (after_frame packet_lost (size_next w) (ticks_next w) w.stream).target (level_of (after_frame packet_lost (size_next w) (ticks_next w) w.stream)) whole =
     subst (λ (s : StreamWorld). IsFsNear s.target (level_of s) whole) (stream_before w waited good short packet_lost) near in
-    all_append P (packet_lines w.detail (size_next w) arrival) (ticks_lines (ticks_next w) w.detail (at_ticks packet_lost (size_next w) w.stream) ++ level_lines w.detail (settled packet_lost (size_next w) (ticks_next w) w.stream))
-    (all_append P (if_at (nat_le 2 w.detail) (says_as_run (says_out 1 (size_next w) arrival))) (over_lines arrival)
-    (all_if P (nat_le 2 w.detail) (says_as_run (says_out 1 (size_next w) arrival)) (kept_out whole 1 (size_next w) arrival))
+    all_append P (arrival_lines w.detail (size_next w) arrival) (ticks_lines (ticks_next w) w.detail (at_ticks packet_lost (size_next w) w.stream) ++ level_lines w.detail (after_frame packet_lost (size_next w) (ticks_next w) w.stream))
+    (all_append P (if_said (nat_le 2 w.detail) (says_out 1 (size_next w) arrival ∷ [])) (over_lines arrival)
+    (all_if P (nat_le 2 w.detail) (says_out 1 (size_next w) arrival) (kept_out whole 1 (size_next w) arrival))
     (over_kept whole arrival (never_over w waited good short packet_lost)))
-    (all_append P (ticks_lines (ticks_next w) w.detail (at_ticks packet_lost (size_next w) w.stream)) (level_lines w.detail (settled packet_lost (size_next w) (ticks_next w) w.stream))
+    (all_append P (ticks_lines (ticks_next w) w.detail (at_ticks packet_lost (size_next w) w.stream)) (level_lines w.detail (after_frame packet_lost (size_next w) (ticks_next w) w.stream))
     (ticks_kept whole w.detail (ticks_next w) (at_ticks packet_lost (size_next w) w.stream) (ticks_quiet w waited good short packet_lost))
-    (all_if P (nat_le 2 w.detail) (says_as_run (says_level 1 (level_of (settled packet_lost (size_next w) (ticks_next w) w.stream)) (settled packet_lost (size_next w) (ticks_next w) w.stream).target))
-    (kept_level whole (level_of (settled packet_lost (size_next w) (ticks_next w) w.stream)) (settled packet_lost (size_next w) (ticks_next w) w.stream).target ends)))
+    (all_if P (nat_le 2 w.detail) (says_level 1 (level_of (after_frame packet_lost (size_next w) (ticks_next w) w.stream)) (after_frame packet_lost (size_next w) (ticks_next w) w.stream).target)
+    (kept_level whole (level_of (after_frame packet_lost (size_next w) (ticks_next w) w.stream)) (after_frame packet_lost (size_next w) (ticks_next w) w.stream).target ends)))
 
 lines_kept : (packet_lost report_lost : Bool) (w : FullSpeedWorld) → IsGood w → AllByRecursion (IsKeptLine (bus_frame packet_lost report_lost w).whole) (frame_lines packet_lost report_lost w)
-unfolding frame_lines lines_before_report
+unfolding frame_lines lines_before_feedback
 lines_kept packet_lost report_lost w good =
     let whole = (bus_frame packet_lost report_lost w).whole in
     let short : length w.steps % 8 ≤ 7 = omega arith in
-    let u : FullSpeedWorld = before_report packet_lost w in
-    all_append (IsKeptLine whole) (number_lines (passed packet_lost w) ++ stream_lines w.detail packet_lost (size_next w) (ticks_next w) w.stream) (report_lines report_lost u)
-    (all_append (IsKeptLine whole) (number_lines (passed packet_lost w)) (stream_lines w.detail packet_lost (size_next w) (ticks_next w) w.stream)
-    (all_if (IsKeptLine whole) (nat_le 2 (passed packet_lost w).detail) (says_as_run (says_time (at_most_u64 (length (passed packet_lost w).steps)))) (kept_time whole (at_most_u64 (length (passed packet_lost w).steps))))
-    (stream_kept w (length w.steps % 8) good short packet_lost whole (frame_leaves packet_lost report_lost w).whole))
-    (report_kept_if whole (is_report_due u) u.detail report_lost (report_in u))
+    let u : FullSpeedWorld = before_feedback packet_lost w in
+    let first : List Said = frame_number (passed packet_lost w) in
+    let rest : List Said = stream_lines w.detail packet_lost (size_next w) (ticks_next w) w.stream in
+    all_append (IsKeptLine whole) (as_run (first ++ rest)) (feedback_lines report_lost u)
+    (all_as_run whole (first ++ rest) (all_append (IsKeptSaid whole) first rest
+    (all_if (IsKeptSaid whole) (nat_le 2 (passed packet_lost w).detail) (says_microframe (at_most_u64 (length (passed packet_lost w).steps))) (kept_microframe whole (at_most_u64 (length (passed packet_lost w).steps))))
+    (stream_kept w (length w.steps % 8) good short packet_lost whole (frame_leaves packet_lost report_lost w).whole)))
+    (feedback_kept_if whole (is_feedback_due u) u.detail report_lost (feedback_in u))
 
 -- ---- a bus frame, and so many
 
@@ -454,7 +466,7 @@ silent_line w good = ((good_kept w (length w.steps % 8) good, tt), tt)
 state_kept : (w : FullSpeedWorld) → IsGood w → AllByRecursion IsKept (line_done (state_lines w) w ∷ [])
 state_kept w good =
     let k = good_kept w (length w.steps % 8) good in
-    ((k, (kept_passed w.whole _, (kept_steady w.whole _, (kept_domain w.whole 1 (Some w.rate) _, (kept_stream w.whole (level_of w.stream) w.stream.target w.stream.met k.near k.met, tt))))), tt)
+    ((k, (kept_time w.whole _, (kept_steady w.whole _, (kept_domain w.whole 1 (Some w.rate) _, (kept_stream w.whole (level_of w.stream) w.stream.target w.stream.met k.near k.met, tt))))), tt)
 
 deviate_keeps : (domain ppm : ℤ) (w : FullSpeedWorld) (b : Bool) → StepKeeps (deviate_line domain ppm) w (unless b 6 (fs_done (with_deviation ppm w) []))
 unfolding with_deviation
@@ -463,11 +475,11 @@ deviate_keeps domain ppm w true = λ steady.
     let before = deviation_before ppm w.history steady in
     (before.1, λ good. (deviated ppm w before.0 good, silent_line (with_deviation ppm w) (deviated ppm w before.0 good)))
 
-frames_keep : (count : ℤ) (marks : List PhraseMark) (w : FullSpeedWorld) (b : Bool) → StepKeeps (microframes_line count marks) w (unless b 6 (frames_step (natural_of_int count) (loses_packet marks) (loses_report marks) w))
+frames_keep : (count : ℤ) (marks : List PhraseMark) (w : FullSpeedWorld) (b : Bool) → StepKeeps (microframes_line count marks) w (unless b 6 (frames_step (natural_of_int count) (loses_packet marks) (loses_feedback marks) w))
 frames_keep count marks w false = tt
 frames_keep count marks w true = λ steady. (
-  frames_before (natural_of_int count) (loses_packet marks) (loses_report marks) w steady,
-  λ good. frames_kept (natural_of_int count) (loses_packet marks) (loses_report marks) w good steady,
+  frames_before (natural_of_int count) (loses_packet marks) (loses_feedback marks) w steady,
+  λ good. frames_kept (natural_of_int count) (loses_packet marks) (loses_feedback marks) w good steady,
 )
 
 detail_keeps : (detail : ℕ) (level : ℤ) (w : FullSpeedWorld) → StepKeeps (detail_line level) w (fs_done (with_detail detail w) [])
@@ -487,7 +499,7 @@ step_keeps (break_line after) w = tt
 step_keeps (append_line number samples) w = tt
 step_keeps (track_line number tone) w = tt
 step_keeps (jack_line terminal tone) w = tt
-step_keeps (deviate_line domain ppm) w = deviate_keeps domain ppm w (is_one domain)
+step_keeps (deviate_line domain ppm) w = deviate_keeps domain ppm w (is_at domain 1)
 step_keeps (microframes_line count marks) w = frames_keep count marks w (list_all is_of_stream marks)
 step_keeps (detail_line level) w = detail_keeps (natural_of_int level) level w
 step_keeps report_line w = λ steady. (steady, λ good. (good, state_kept w good))
@@ -553,9 +565,9 @@ deviate_prints : (domain ppm : ℤ) (w : FullSpeedWorld) (b : Bool) → StepPrin
 deviate_prints domain ppm w false = tt
 deviate_prints domain ppm w true = refl
 
-frames_do_print : (count : ℤ) (marks : List PhraseMark) (w : FullSpeedWorld) (b : Bool) → StepPrints (microframes_line count marks) w (unless b 6 (frames_step (natural_of_int count) (loses_packet marks) (loses_report marks) w))
+frames_do_print : (count : ℤ) (marks : List PhraseMark) (w : FullSpeedWorld) (b : Bool) → StepPrints (microframes_line count marks) w (unless b 6 (frames_step (natural_of_int count) (loses_packet marks) (loses_feedback marks) w))
 frames_do_print count marks w false = tt
-frames_do_print count marks w true = frames_print (natural_of_int count) (loses_packet marks) (loses_report marks) w
+frames_do_print count marks w true = frames_print (natural_of_int count) (loses_packet marks) (loses_feedback marks) w
 
 step_prints : (phrase : Phrase) (w : FullSpeedWorld) → StepPrints phrase w (fs_step phrase w)
 unfolding fs_step
@@ -570,7 +582,7 @@ step_prints (break_line after) w = tt
 step_prints (append_line number samples) w = tt
 step_prints (track_line number tone) w = tt
 step_prints (jack_line terminal tone) w = tt
-step_prints (deviate_line domain ppm) w = deviate_prints domain ppm w (is_one domain)
+step_prints (deviate_line domain ppm) w = deviate_prints domain ppm w (is_at domain 1)
 step_prints (microframes_line count marks) w = frames_do_print count marks w (list_all is_of_stream marks)
 step_prints (detail_line level) w = refl
 step_prints report_line w = append-nil (state_lines w)

@@ -6,7 +6,7 @@ use Rattle.uac_ring.specs.declared.arrival.Arrival.{Arrival}
 use Rattle.uac_ring.specs.declared.arrival.Arrival.TheVariants as arrivals
 use Rattle.uac_bench.specs.BenchStreams.{StreamWorld, level_of, arrives_by, received_by, arrival_of, numbered, after_packet, ticked_by, after_tick, after_ticks, silent_frame, with_zeros, target_by, after_priming}
 use Rattle.uac_bench.proofs.FramesLemmas.{length-numbered}
-use Rattle.uac_fullspeed.specs.FullSpeedWorld.{at_ticks, ticked, replaced_by, settled}
+use Rattle.uac_fullspeed.specs.FullSpeedWorld.{at_ticks, ticked, replaced_by, after_frame}
 use Rattle.uac_fullspeed.specs.FullSpeedKept.{FewByTarget, HasRoom}
 
 -- ---- a packet
@@ -158,6 +158,6 @@ replaced_ends true size ticks s room short =
     (subst (λ (o : Option ℕ). HowBy o (at_ticks true size s) (ticked true size ticks s) ticks) a.received.target t.how) short in
     record { below = omega arith; most = omega arith }
 
-pub settled_room : (lost : Bool) (size ticks : ℕ) (s : StreamWorld) → HasRoom s → ticks ≤ 769 → HasRoom (settled lost size ticks s)
-unfolding settled
-settled_room lost size ticks s room short = ends_primed (replaced_by lost ticks (ticked lost size ticks s)) (replaced_ends lost size ticks s room short)
+pub after_frame_room : (lost : Bool) (size ticks : ℕ) (s : StreamWorld) → HasRoom s → ticks ≤ 769 → HasRoom (after_frame lost size ticks s)
+unfolding after_frame
+after_frame_room lost size ticks s room short = ends_primed (replaced_by lost ticks (ticked lost size ticks s)) (replaced_ends lost size ticks s room short)

@@ -13,6 +13,11 @@ use Rattle.uac_rate.specs.Levels.{HasBand}
 use Rattle.uac_rate.specs.Steadiness.{SteadyStands, nothing_given}
 use Rattle.uac_units.specs.Hearing.{at_most_u64}
 use Rattle.uac_ring.specs.declared.counts.StreamCounts.{StreamCounts}
+use Rattle.std.proofs.KnownBytes.{Appends-nil}
+use Rattle.uac_transcript.specs.Printing.{Prints, text_of}
+use Rattle.uac_transcript.proofs.PrintingLemmas.{Prints-after, front_of_more, spelt-after, spelt-front_of_more}
+use Rattle.uac_bench.specs.BenchLines.{if_said}
+use Rattle.uac_bench.proofs.RepeatedLemmas.{one_further, told_more, told_in_part}
 use Rattle.uac_bench.specs.BenchStreams.{StreamWorld, stream_start, level_of}
 use Rattle.uac_bench.specs.BenchKept.{BenchClockFields, BenchClockStands, BenchStreamFields, BenchStreamStands}
 use Rattle.uac_fullspeed.specs.declared.values.FsNominal.{FsNominal}
@@ -20,15 +25,14 @@ use Rattle.uac_fullspeed.specs.declared.carry.Brought.{Brought}
 use Rattle.uac_fullspeed.specs.declared.printing.Shown.{Shown}
 use Rattle.uac_fullspeed.specs.FullSpeedNominal.{IsFsNominal, fs_nominal_of, fs_step_of, fs_values_of}
 use Rattle.uac_fullspeed.specs.FullSpeedBands.{FsLeavesRoom}
-use Rattle.uac_fullspeed.specs.FullSpeedWorld.{FullSpeedWorld, is_steady_in, full_speed_start, frames_of_last, size_next, step_next, ticks_next, settled, passed, before_report, is_report_due, report_in, report_given, reported_if, after_report, bus_frame, bus_frames}
-use Rattle.uac_fullspeed.specs.FullSpeedLines.{FsLine, shown_in, says_as_run, says_report, fs_text_of, FsPrints, if_at, number_lines, stream_lines, lines_before_report, report_lines_if, report_lines, frame_lines, frames_lines}
-use Rattle.uac_fullspeed.specs.FullSpeedKept.{FsRunFields, four_times, FsRunStands, HasRoom, FsRunStandsBetween, FsTellsBetween, CarryTells}
+use Rattle.uac_fullspeed.specs.FullSpeedWorld.{FullSpeedWorld, is_steady_in, full_speed_start, frames_of_last, size_next, step_next, ticks_next, after_frame, passed, before_feedback, is_feedback_due, feedback_in, feedback_given, feedback_if, after_feedback, bus_frame, bus_frames}
+use Rattle.uac_fullspeed.specs.FullSpeedLines.{FsLine, shown_in, says_fs_feedback, as_run, fs_spelling_of, fs_text_of, FsPrints, frame_number, stream_lines, lines_before_feedback, feedback_lines_if, feedback_lines, frame_lines, frames_lines}
+use Rattle.uac_fullspeed.specs.FullSpeedKept.{FsRunFields, four_times, FsRunStands, HasRoom, FsRunStandsBetween, FsTellsBetween, FsSaysBetween, CarryTells}
 use Rattle.uac_fullspeed.proofs.BandsLemmas.{leaves_room, listed_nominal}
-use Rattle.uac_fullspeed.proofs.FsPrintingLemmas.{Appends-nothing, FsPrints-after, fs_front_of_more, fs_front_after}
+use Rattle.uac_fullspeed.proofs.FsPrintingLemmas.{as_run_text}
 use Rattle.uac_fullspeed.proofs.CarryLemmas.{on_ok}
-use Rattle.uac_fullspeed.proofs.RoomLemmas.{settled_room}
+use Rattle.uac_fullspeed.proofs.RoomLemmas.{after_frame_room}
 use Rattle.uac_fullspeed.proofs.SumsLemmas.{last_by_remainder}
-use Rattle.uac_fullspeed.proofs.TellingLemmas.{one_further, told_more, told_in_part}
 
 -- ---- 16,384ths as 65,536ths
 
@@ -169,10 +173,10 @@ shows w s a b c d e f g =
 -- the stream's part of a bus frame
 pub carried_between : {E : Type 0} (b : Brought) (w : FullSpeedWorld) (before : FsRunFields) (stream : BenchStreamFields) (detail : ℕ) (old new : Option (List ℕ)) (r : Result (Unit {0}) E)
     → FsRunStandsBetween before w → detail ≡ w.detail → b.ticks ≤ 769
-    → FsPrints old new r (stream_lines detail b.lost b.frames b.ticks w.stream) × OnOk r (BenchStreamStands stream (settled b.lost b.frames b.ticks w.stream))
+    → Prints old new r (stream_lines detail b.lost b.frames b.ticks w.stream) × OnOk r (BenchStreamStands stream (after_frame b.lost b.frames b.ticks w.stream))
     → CarryTells b w (record before { stream = stream }) old new r
 carried_between b w before stream detail old new (Ok u) stands same short told = (
-  subst (λ (d : ℕ). Appends old new (fs_text_of (stream_lines d b.lost b.frames b.ticks w.stream))) same told.0,
+  subst (λ (d : ℕ). Appends old new (text_of (stream_lines d b.lost b.frames b.ticks w.stream))) same told.0,
   record {
     now = record {
       rate = stands.now.rate;
@@ -187,23 +191,23 @@ carried_between b w before stream detail old new (Ok u) stands same short told =
       time = stands.now.time;
       since = stands.now.since;
     };
-    room = settled_room b.lost b.frames b.ticks w.stream stands.room short;
+    room = after_frame_room b.lost b.frames b.ticks w.stream stands.room short;
   },
 )
 carried_between b w before stream detail old new (Err e) stands same short told =
-    (subst (λ (d : ℕ). AppendsFront old new (fs_text_of (stream_lines d b.lost b.frames b.ticks w.stream))) same told.0, tt)
+    (subst (λ (d : ℕ). AppendsFront old new (text_of (stream_lines d b.lost b.frames b.ticks w.stream))) same told.0, tt)
 
 -- ---- up to the report
 
-pub number_cut : (w : FullSpeedWorld) (lost : Bool) (old new : Option (List ℕ)) → AppendsFront old new (fs_text_of (number_lines (passed lost w)))
-    → AppendsFront old new (fs_text_of (lines_before_report lost w))
-unfolding lines_before_report
-number_cut w lost old new f = fs_front_of_more old new (number_lines (passed lost w)) (stream_lines w.detail lost (size_next w) (ticks_next w) w.stream) f
+pub number_cut : (w : FullSpeedWorld) (lost : Bool) (old new : Option (List ℕ)) → AppendsFront old new (text_of (frame_number (passed lost w)))
+    → AppendsFront old new (text_of (lines_before_feedback lost w))
+unfolding lines_before_feedback
+number_cut w lost old new f = front_of_more old new (frame_number (passed lost w)) (stream_lines w.detail lost (size_next w) (ticks_next w) w.stream) f
 
 -- what a bus frame brings, told of the world before it
 abbrev Carries : {E : Type 0} → ℕ → Bool → ℕ → FullSpeedWorld → FsRunFields → Bool → Option (List ℕ) → Option (List ℕ) → Result (Unit {0}) E → Type 0
 Carries frames l ticks w kept lost old new r =
-    FsTellsBetween (stream_lines w.detail l frames ticks w.stream) (record (passed lost w) { stream = settled l frames ticks w.stream }) kept old new r
+    FsSaysBetween (stream_lines w.detail l frames ticks w.stream) (record (passed lost w) { stream = after_frame l frames ticks w.stream }) kept old new r
 
 carries : {E : Type 0} (b : Brought) (w : FullSpeedWorld) (kept : FsRunFields) (lost : Bool) (old new : Option (List ℕ)) (r : Result (Unit {0}) E)
     → CarryTells b (passed lost w) kept old new r → Carries b.frames b.lost b.ticks w kept lost old new r
@@ -211,74 +215,79 @@ unfolding passed
 carries b w kept lost old new r h = h
 
 pub told_up : {E : Type 0} (b : Brought) (w : FullSpeedWorld) (kept : FsRunFields) (lost : Bool) (old mid new : Option (List ℕ)) (r : Result (Unit {0}) E)
-    → Appends old mid (fs_text_of (number_lines (passed lost w))) → b.frames ≡ size_next w → b.lost ≡ lost → b.ticks ≡ ticks_next w
-    → CarryTells b (passed lost w) kept mid new r → FsTellsBetween (lines_before_report lost w) (before_report lost w) kept old new r
-unfolding lines_before_report before_report
+    → Appends old mid (text_of (frame_number (passed lost w))) → b.frames ≡ size_next w → b.lost ≡ lost → b.ticks ≡ ticks_next w
+    → CarryTells b (passed lost w) kept mid new r → FsSaysBetween (lines_before_feedback lost w) (before_feedback lost w) kept old new r
+unfolding lines_before_feedback before_feedback
 told_up b w kept lost old mid new r first frames is ticks told =
     let t = subst (λ (n : ℕ). Carries n lost (ticks_next w) w kept lost mid new r) frames
     (subst (λ (l : Bool). Carries b.frames l (ticks_next w) w kept lost mid new r) is
     (subst (λ (n : ℕ). Carries b.frames b.lost n w kept lost mid new r) ticks (carries b w kept lost mid new r told))) in
-    (FsPrints-after old mid new r (number_lines (passed lost w)) (stream_lines w.detail lost (size_next w) (ticks_next w) w.stream) first t.0, t.1)
+    (Prints-after old mid new r (frame_number (passed lost w)) (stream_lines w.detail lost (size_next w) (ticks_next w) w.stream) first t.0, t.1)
 
 -- ---- the report
 
-pub not_due : (w : FullSpeedWorld) (lost : Bool) (since : ℕ) → since ≡ length w.steps % 8 → since ≢ 0 → (report_lines lost w ≡ []) × (after_report lost w ≡ w)
-unfolding after_report
+pub not_due : (w : FullSpeedWorld) (lost : Bool) (since : ℕ) → since ≡ length w.steps % 8 → since ≢ 0 → (feedback_lines lost w ≡ []) × (after_feedback lost w ≡ w)
+unfolding after_feedback
 not_due w lost since is some =
-    let none : is_report_due w ≡ false = from (is_report_due w) refl in
-    (ap (λ (due : Bool). report_lines_if due w.detail lost (report_in w)) none, ap (λ (due : Bool). reported_if due lost (report_in w) w) none) where
-      from : (due : Bool) → is_report_due w ≡ due → is_report_due w ≡ false
+    let none : is_feedback_due w ≡ false = from (is_feedback_due w) refl in
+    (ap (λ (due : Bool). feedback_lines_if due w.detail lost (feedback_in w)) none, ap (λ (due : Bool). feedback_if due lost (feedback_in w) w) none) where
+      from : (due : Bool) → is_feedback_due w ≡ due → is_feedback_due w ≡ false
       from false e = e
       from true e = absurd (some (is ∙ eqb-true (length w.steps % 8) 0 e))
 
 pub due : (w : FullSpeedWorld) (lost : Bool) (since : ℕ) → since ≡ length w.steps % 8 → since ≡ 0
-    → (report_lines lost w ≡ if_at (nat_le 2 w.detail) (says_report (report_in w) lost)) × (after_report lost w ≡ report_given lost (report_in w) w)
-unfolding after_report
+    → (feedback_lines lost w ≡ if_said (nat_le 2 w.detail) (says_fs_feedback (feedback_in w) lost ∷ [])) × (after_feedback lost w ≡ feedback_given lost (feedback_in w) w)
+unfolding after_feedback
 due w lost since is none =
-    let some : is_report_due w ≡ true = eq-eqb (length w.steps % 8) 0 (sym is ∙ none) in
-    (ap (λ (d : Bool). report_lines_if d w.detail lost (report_in w)) some, ap (λ (d : Bool). reported_if d lost (report_in w) w) some)
+    let some : is_feedback_due w ≡ true = eq-eqb (length w.steps % 8) 0 (sym is ∙ none) in
+    (ap (λ (d : Bool). feedback_lines_if d w.detail lost (feedback_in w)) some, ap (λ (d : Bool). feedback_if d lost (feedback_in w) w) some)
 
-given_room : (lost : Bool) (value : ℕ) (w : FullSpeedWorld) → HasRoom w.stream → HasRoom (report_given lost value w).stream
+given_room : (lost : Bool) (value : ℕ) (w : FullSpeedWorld) → HasRoom w.stream → HasRoom (feedback_given lost value w).stream
 given_room true value w room = record { played = room.played; few = room.few }
 given_room false value w room = room
 
-abbrev pub NothingReported : FullSpeedWorld → FsRunFields → Bool → Option (List ℕ) → Type 0
-NothingReported w kept lost old = Appends old old (fs_text_of (report_lines lost w)) × FsRunStandsBetween kept (after_report lost w)
+abbrev pub NoFeedback : FullSpeedWorld → FsRunFields → Bool → Option (List ℕ) → Type 0
+NoFeedback w kept lost old = Appends old old (fs_text_of (feedback_lines lost w)) × FsRunStandsBetween kept (after_feedback lost w)
 
-pub nothing_reported : (w : FullSpeedWorld) (kept : FsRunFields) (lost : Bool) (old : Option (List ℕ)) → FsRunStandsBetween kept w → kept.since ≢ 0
-    → NothingReported w kept lost old
-nothing_reported w kept lost old stands some =
+pub no_feedback : (w : FullSpeedWorld) (kept : FsRunFields) (lost : Bool) (old : Option (List ℕ)) → FsRunStandsBetween kept w → kept.since ≢ 0
+    → NoFeedback w kept lost old
+no_feedback w kept lost old stands some =
     let none = not_due w lost kept.since stands.now.since some in (
-      subst (λ (ls : List FsLine). Appends old old (fs_text_of ls)) (sym none.0) (Appends-nothing old),
+      subst (λ (ls : List FsLine). Appends old old (fs_text_of ls)) (sym none.0) (Appends-nil old),
       subst (FsRunStandsBetween kept) (sym none.1) stands,
     )
 
-pub reported : {E : Type 0} (w : FullSpeedWorld) (before kept : FsRunFields) (lost : Bool) (value detail : ℕ) (old new : Option (List ℕ)) (r : Result (Unit {0}) E)
-    → FsRunStandsBetween before w → before.since ≡ 0 → value ≡ report_in w → detail ≡ before.detail → FsRunStands kept (report_given lost value w)
-    → FsPrints old new r (if_at (nat_le 2 detail) (says_report value lost))
-    → FsTellsBetween (report_lines lost w) (after_report lost w) kept old new r
-reported w before kept lost value detail old new r stands none is same given printed =
+pub some_feedback : {E : Type 0} (w : FullSpeedWorld) (before kept : FsRunFields) (lost : Bool) (value detail : ℕ) (old new : Option (List ℕ)) (r : Result (Unit {0}) E)
+    → FsRunStandsBetween before w → before.since ≡ 0 → value ≡ feedback_in w → detail ≡ before.detail → FsRunStands kept (feedback_given lost value w)
+    → FsPrints old new r (if_said (nat_le 2 detail) (says_fs_feedback value lost ∷ []))
+    → FsTellsBetween (feedback_lines lost w) (after_feedback lost w) kept old new r
+some_feedback w before kept lost value detail old new r stands none is same given printed =
     let some = due w lost before.since stands.now.since none in
-    let now : FsRunStandsBetween kept (report_given lost (report_in w) w) =
-    record { now = subst (λ (v : ℕ). FsRunStands kept (report_given lost v w)) is given; room = given_room lost (report_in w) w stands.room } in
-    let lines : if_at (nat_le 2 detail) (says_report value lost) ≡ report_lines lost w =
-    ap (λ (d : ℕ). if_at (nat_le 2 d) (says_report value lost)) (same ∙ stands.now.detail) ∙ ap (λ (v : ℕ). if_at (nat_le 2 w.detail) (says_report v lost)) is ∙ sym some.0 in
-    (subst (FsPrints old new r) lines printed, on_ok r (FsRunStandsBetween kept (after_report lost w)) (subst (FsRunStandsBetween kept) (sym some.1) now))
+    let now : FsRunStandsBetween kept (feedback_given lost (feedback_in w) w) =
+    record { now = subst (λ (v : ℕ). FsRunStands kept (feedback_given lost v w)) is given; room = given_room lost (feedback_in w) w stands.room } in
+    let lines : if_said (nat_le 2 detail) (says_fs_feedback value lost ∷ []) ≡ feedback_lines lost w =
+    ap (λ (d : ℕ). if_said (nat_le 2 d) (says_fs_feedback value lost ∷ [])) (same ∙ stands.now.detail) ∙ ap (λ (v : ℕ). if_said (nat_le 2 w.detail) (says_fs_feedback v lost ∷ [])) is ∙ sym some.0 in
+    (subst (FsPrints old new r) lines printed, on_ok r (FsRunStandsBetween kept (after_feedback lost w)) (subst (FsRunStandsBetween kept) (sym some.1) now))
 
 -- ---- a bus frame
 
-pub frame_cut : (w : FullSpeedWorld) (packet_lost report_lost : Bool) (old new : Option (List ℕ)) → AppendsFront old new (fs_text_of (lines_before_report packet_lost w))
+pub frame_cut : (w : FullSpeedWorld) (packet_lost report_lost : Bool) (old new : Option (List ℕ)) → AppendsFront old new (text_of (lines_before_feedback packet_lost w))
     → AppendsFront old new (fs_text_of (frame_lines packet_lost report_lost w))
 unfolding frame_lines
-frame_cut w packet_lost report_lost old new f = fs_front_of_more old new (lines_before_report packet_lost w) (report_lines report_lost (before_report packet_lost w)) f
+frame_cut w packet_lost report_lost old new f =
+    spelt-front_of_more fs_spelling_of old new (as_run (lines_before_feedback packet_lost w)) (feedback_lines report_lost (before_feedback packet_lost w))
+    (subst (AppendsFront old new) (sym (as_run_text (lines_before_feedback packet_lost w))) f)
 
 pub frame_told : {E : Type 0} (w : FullSpeedWorld) (kept : FsRunFields) (packet_lost report_lost : Bool) (old mid new : Option (List ℕ)) (r : Result (Unit {0}) E)
-    → Appends old mid (fs_text_of (lines_before_report packet_lost w))
-    → FsTellsBetween (report_lines report_lost (before_report packet_lost w)) (after_report report_lost (before_report packet_lost w)) kept mid new r
+    → Appends old mid (text_of (lines_before_feedback packet_lost w))
+    → FsTellsBetween (feedback_lines report_lost (before_feedback packet_lost w)) (after_feedback report_lost (before_feedback packet_lost w)) kept mid new r
     → FsTellsBetween (frame_lines packet_lost report_lost w) (bus_frame packet_lost report_lost w) kept old new r
 unfolding frame_lines bus_frame
-frame_told w kept packet_lost report_lost old mid new r first told =
-    (FsPrints-after old mid new r (lines_before_report packet_lost w) (report_lines report_lost (before_report packet_lost w)) first told.0, told.1)
+frame_told w kept packet_lost report_lost old mid new r first told = (
+  spelt-after fs_spelling_of old mid new r (as_run (lines_before_feedback packet_lost w)) (feedback_lines report_lost (before_feedback packet_lost w))
+      (subst (Appends old mid) (sym (as_run_text (lines_before_feedback packet_lost w))) first) told.0,
+  told.1,
+)
 
 -- ---- bus frames
 
@@ -312,20 +321,20 @@ module _ (packet_lost report_lost : Bool) where
   more_frames n w = refl
 
   pub frames_further : (i : ℕ) (w : FullSpeedWorld) → bus_frames (i + 1) packet_lost report_lost w ≡ bus_frame packet_lost report_lost (bus_frames i packet_lost report_lost w)
-  frames_further = one_further step_of said_of all_of after_of no_lines more_lines no_frames more_frames
+  frames_further = one_further fs_spelling_of step_of said_of all_of after_of no_lines more_lines no_frames more_frames
 
   pub frames_told_more : (old mid new : Option (List ℕ)) (i : ℕ) (w : FullSpeedWorld) → Appends old mid (fs_text_of (frames_lines i packet_lost report_lost w))
       → Appends mid new (fs_text_of (frame_lines packet_lost report_lost (bus_frames i packet_lost report_lost w))) → Appends old new (fs_text_of (frames_lines (i + 1) packet_lost report_lost w))
-  frames_told_more = told_more step_of said_of all_of after_of no_lines more_lines no_frames more_frames
+  frames_told_more = told_more fs_spelling_of step_of said_of all_of after_of no_lines more_lines no_frames more_frames
 
   pub frames_told_in_part : (old mid new : Option (List ℕ)) (i count : ℕ) (w : FullSpeedWorld) → i < count → Appends old mid (fs_text_of (frames_lines i packet_lost report_lost w))
       → AppendsFront mid new (fs_text_of (frame_lines packet_lost report_lost (bus_frames i packet_lost report_lost w))) → AppendsFront old new (fs_text_of (frames_lines count packet_lost report_lost w))
-  frames_told_in_part = told_in_part step_of said_of all_of after_of no_lines more_lines no_frames more_frames
+  frames_told_in_part = told_in_part fs_spelling_of step_of said_of all_of after_of no_lines more_lines no_frames more_frames
 
   pub no_frames_told : (old : Option (List ℕ)) (kept : FsRunFields) (w : FullSpeedWorld) → FsRunStandsBetween kept w
       → Appends old old (fs_text_of (frames_lines 0 packet_lost report_lost w)) × FsRunStandsBetween kept (bus_frames 0 packet_lost report_lost w)
   no_frames_told old kept w stands = (
-    subst (λ (ls : List FsLine). Appends old old (fs_text_of ls)) (sym (no_lines w)) (Appends-nothing old),
+    subst (λ (ls : List FsLine). Appends old old (fs_text_of ls)) (sym (no_lines w)) (Appends-nil old),
     subst (FsRunStandsBetween kept) (sym (no_frames w)) stands,
   )
 

@@ -9,7 +9,7 @@ use Rattle.uac_bench.proofs.FramesLemmas.{length-numbered}
 use Rattle.uac_fullspeed.specs.declared.values.FsNominal.{FsNominal}
 use Rattle.uac_fullspeed.specs.FullSpeedNominal.{IsFsNominal, fs_report_of}
 use Rattle.uac_fullspeed.specs.FullSpeedBands.{FsLeavesRoom, FsPoint, point_of, BusFrame, TakesFsReport, IsFsRobust, IsFsTight}
-use Rattle.uac_fullspeed.specs.FullSpeedWorld.{FullSpeedWorld, full_speed_start, size_next, step_next, ticks_next, at_ticks, ticked, replaced_by, settled, whole_by, passed, before_report, is_report_due, report_by, report_in, report_given, reported_if, after_report, bus_frame}
+use Rattle.uac_fullspeed.specs.FullSpeedWorld.{FullSpeedWorld, full_speed_start, size_next, step_next, ticks_next, at_ticks, ticked, replaced_by, after_frame, whole_by, passed, before_feedback, is_feedback_due, feedback_by, feedback_in, feedback_given, feedback_if, after_feedback, bus_frame}
 use Rattle.uac_fullspeed.proofs.BandsLemmas.{leaves_room, fs_slight_step, fs_near, fs_bounds, frame_robust, fs_report_robust, frame_tight, fs_report_tight, fs_tight_near, fs_primed, fs_moment}
 use Rattle.uac_fullspeed.proofs.SumsLemmas.{last_by_remainder}
 
@@ -340,15 +340,15 @@ before_by w waited lost None (Some u) enough short good is kept same test =
     let m = priming_moves lost (size_next w) (ticks_next w) w.stream is (omega (arith, few.0)) in
     absurd (let none : Some u ≡ None = same ∙ m.target ∙ is in cc)
 
-pub before_good : (w : FullSpeedWorld) (waited : ℕ) (lost : Bool) → waited ≤ 7 → Good w waited → Good (before_report lost w) (suc waited)
-unfolding before_report passed settled after_priming
+pub before_good : (w : FullSpeedWorld) (waited : ℕ) (lost : Bool) → waited ≤ 7 → Good w waited → Good (before_feedback lost w) (suc waited)
+unfolding before_feedback passed after_frame after_priming
 before_good w waited lost short good =
     before_by w waited lost w.stream.target (moved lost (size_next w) (ticks_next w) w.stream).target (nat_le 256 (level_of (moved lost (size_next w) (ticks_next w) w.stream))) short good refl good.kept refl refl
 
 -- ---- the report
 
-as_report : (lost : Bool) (w : FullSpeedWorld) (target : ℕ) → lost_run (report_given lost (fs_report_of w.nominal target (level_of w.stream)) w) ≤ 3
-    → TakesFsReport w.nominal lost (numbers w target 8) (numbers (report_given lost (fs_report_of w.nominal target (level_of w.stream)) w) target 0)
+as_report : (lost : Bool) (w : FullSpeedWorld) (target : ℕ) → lost_run (feedback_given lost (fs_report_of w.nominal target (level_of w.stream)) w) ≤ 3
+    → TakesFsReport w.nominal lost (numbers w target 8) (numbers (feedback_given lost (fs_report_of w.nominal target (level_of w.stream)) w) target 0)
 as_report true w target few = record { due = refl; waited_is = refl; lost_is = one_lost (w.history.feedback 0); few = few; value_is = refl; level_is = refl; target_is = refl; host_is = refl; clock_is = refl } where
   one_lost : (lists : List (List Bool)) → latest_run (one_more true lists) ≡ suc (latest_run lists)
   one_lost [] = refl
@@ -358,13 +358,13 @@ as_report false w target few = record { due = refl; waited_is = refl; lost_is = 
   one_came [] = refl
   one_came (latest ∷ earlier) = refl
 
-report_kept : (lost : Bool) (w : FullSpeedWorld) (o : Option ℕ) → FsLeavesRoom w.nominal → lost_run (report_given lost (report_by w.nominal o (level_of w.stream)) w) ≤ 3
-    → KeptBy o w 8 → KeptBy o (report_given lost (report_by w.nominal o (level_of w.stream)) w) 0
-report_kept true w None room few kept = record { few = kept.few; value = kept.value }
-report_kept false w None room few kept = record { few = kept.few; value = refl }
-report_kept true w (Some target) room few kept =
+feedback_kept : (lost : Bool) (w : FullSpeedWorld) (o : Option ℕ) → FsLeavesRoom w.nominal → lost_run (feedback_given lost (feedback_by w.nominal o (level_of w.stream)) w) ≤ 3
+    → KeptBy o w 8 → KeptBy o (feedback_given lost (feedback_by w.nominal o (level_of w.stream)) w) 0
+feedback_kept true w None room few kept = record { few = kept.few; value = kept.value }
+feedback_kept false w None room few kept = record { few = kept.few; value = refl }
+feedback_kept true w (Some target) room few kept =
     let r = as_report true w target few in
-    let v : FullSpeedWorld = report_given true (fs_report_of w.nominal target (level_of w.stream)) w in
+    let v : FullSpeedWorld = feedback_given true (fs_report_of w.nominal target (level_of w.stream)) w in
     record {
       robust = fs_report_robust w.nominal true (numbers w target 8) (numbers v target 0) room r kept.robust;
       tight = λ whole.
@@ -374,9 +374,9 @@ report_kept true w (Some target) room few kept =
             tight = fs_report_tight w.nominal true before.anchor (numbers w target 8) (numbers v target 0) room r kept.robust before.tight;
           };
     }
-report_kept false w (Some target) room few kept =
+feedback_kept false w (Some target) room few kept =
     let r = as_report false w target few in
-    let v : FullSpeedWorld = report_given false (fs_report_of w.nominal target (level_of w.stream)) w in
+    let v : FullSpeedWorld = feedback_given false (fs_report_of w.nominal target (level_of w.stream)) w in
     record {
       robust = fs_report_robust w.nominal false (numbers w target 8) (numbers v target 0) room r kept.robust;
       tight = λ whole.
@@ -387,7 +387,7 @@ report_kept false w (Some target) room few kept =
           };
     }
 
-given_good : (lost : Bool) (w : FullSpeedWorld) → lost_run (report_given lost (report_in w) w) ≤ 3 → Good w 8 → Good (report_given lost (report_in w) w) 0
+given_good : (lost : Bool) (w : FullSpeedWorld) → lost_run (feedback_given lost (feedback_in w) w) ≤ 3 → Good w 8 → Good (feedback_given lost (feedback_in w) w) 0
 given_good true w few good = record {
   nominal = good.nominal;
   slight = good.slight;
@@ -396,7 +396,7 @@ given_good true w few good = record {
   over = good.over;
   lost = few;
   waited_few = omega arith;
-  kept = report_kept true w w.stream.target (leaves_room w.nominal good.nominal) few good.kept;
+  kept = feedback_kept true w w.stream.target (leaves_room w.nominal good.nominal) few good.kept;
 }
 given_good false w few good = record {
   nominal = good.nominal;
@@ -406,26 +406,26 @@ given_good false w few good = record {
   over = good.over;
   lost = few;
   waited_few = omega arith;
-  kept = report_kept false w w.stream.target (leaves_room w.nominal good.nominal) few good.kept;
+  kept = feedback_kept false w w.stream.target (leaves_room w.nominal good.nominal) few good.kept;
 }
 
-steps_kept : (due lost : Bool) (value : ℕ) (w : FullSpeedWorld) → (reported_if due lost value w).steps ≡ w.steps
+steps_kept : (due lost : Bool) (value : ℕ) (w : FullSpeedWorld) → (feedback_if due lost value w).steps ≡ w.steps
 steps_kept false lost value w = refl
 steps_kept true true value w = refl
 steps_kept true false value w = refl
 
-reported_good : (due lost : Bool) (w : FullSpeedWorld) (waited : ℕ) → (length w.steps % 8 == 0) ≡ due → length w.steps % 8 ≡ suc waited % 8 → waited ≤ 7
-    → lost_run (reported_if due lost (report_in w) w) ≤ 3 → Good w (suc waited) → Good (reported_if due lost (report_in w) w) (length w.steps % 8)
-reported_good true lost w waited due counts short few good =
+feedback_good : (due lost : Bool) (w : FullSpeedWorld) (waited : ℕ) → (length w.steps % 8 == 0) ≡ due → length w.steps % 8 ≡ suc waited % 8 → waited ≤ 7
+    → lost_run (feedback_if due lost (feedback_in w) w) ≤ 3 → Good w (suc waited) → Good (feedback_if due lost (feedback_in w) w) (length w.steps % 8)
+feedback_good true lost w waited due counts short few good =
     let none = eqb-true (length w.steps % 8) 0 due in
     let eight : suc waited ≡ 8 = omega arith in
-    subst (λ (n : ℕ). Good (report_given lost (report_in w) w) n) (sym none) (given_good lost w few (subst (λ (n : ℕ). Good w n) eight good))
-reported_good false lost w waited due counts short few good =
+    subst (λ (n : ℕ). Good (feedback_given lost (feedback_in w) w) n) (sym none) (given_good lost w few (subst (λ (n : ℕ). Good w n) eight good))
+feedback_good false lost w waited due counts short few good =
     let some = eqb-false (length w.steps % 8) 0 due in
     subst (λ (n : ℕ). Good w n) (let same : suc waited ≡ length w.steps % 8 = omega arith in same) good
 
-counted : (lost : Bool) (w : FullSpeedWorld) → length (before_report lost w).steps ≡ length w.steps + 1
-unfolding before_report passed
+counted : (lost : Bool) (w : FullSpeedWorld) → length (before_feedback lost w).steps ≡ length w.steps + 1
+unfolding before_feedback passed
 counted lost w = length-append w.steps (step_next w ∷ [])
 
 -- between two bus frames
@@ -433,11 +433,11 @@ abbrev pub IsGood : FullSpeedWorld → Type 0
 IsGood w = Good w (length w.steps % 8)
 
 pub frame_good : (packet_lost report_lost : Bool) (w : FullSpeedWorld) → lost_run (bus_frame packet_lost report_lost w) ≤ 3 → IsGood w → IsGood (bus_frame packet_lost report_lost w)
-unfolding bus_frame after_report
+unfolding bus_frame after_feedback
 frame_good packet_lost report_lost w few good =
-    let v : FullSpeedWorld = before_report packet_lost w in
+    let v : FullSpeedWorld = before_feedback packet_lost w in
     let more = counted packet_lost w in
     let short : length w.steps % 8 ≤ 7 = omega arith in
     let at = before_good w (length w.steps % 8) packet_lost short good in
-    subst (λ (n : ℕ). Good (reported_if (is_report_due v) report_lost (report_in v) v) (n % 8)) (ap length (sym (steps_kept (is_report_due v) report_lost (report_in v) v)))
-    (reported_good (is_report_due v) report_lost v (length w.steps % 8) refl (omega arith) short few at)
+    subst (λ (n : ℕ). Good (feedback_if (is_feedback_due v) report_lost (feedback_in v) v) (n % 8)) (ap length (sym (steps_kept (is_feedback_due v) report_lost (feedback_in v) v)))
+    (feedback_good (is_feedback_due v) report_lost v (length w.steps % 8) refl (omega arith) short few at)

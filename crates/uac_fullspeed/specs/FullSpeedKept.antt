@@ -13,7 +13,9 @@ use Rattle.uac_fullspeed.specs.declared.fault.BenchFault.{BenchFault}
 use Rattle.uac_fullspeed.specs.declared.fault.BenchFault.TheVariants as faults
 use Rattle.uac_fullspeed.specs.declared.carry.Brought.{Brought}
 use Rattle.uac_fullspeed.specs.FullSpeedNominal.{IsFsNominal, fs_nominal_of}
-use Rattle.uac_fullspeed.specs.FullSpeedWorld.{FullSpeedWorld, settled}
+use Rattle.uac_fullspeed.specs.FullSpeedWorld.{FullSpeedWorld, after_frame}
+use Rattle.uac_transcript.specs.Transcript.{Said}
+use Rattle.uac_transcript.specs.Printing.{Prints}
 use Rattle.uac_fullspeed.specs.FullSpeedLines.{FsLine, FsPrints, fs_text_of, stream_lines}
 use Rattle.uac_fullspeed.specs.FullSpeedSteps.{FsStep, fs_done, fs_refused}
 
@@ -61,9 +63,9 @@ FewByTarget None level = level ≤ 255
 FewByTarget (Some target) level = level ≤ 1024
 
 -- what was told of the stream was printed: all of it, and what is kept stands for the stream; or at an error a front of it
-abbrev pub StreamTells : {E : Type 0} → List FsLine → StreamWorld → BenchStreamFields → Option (List ℕ) → Option (List ℕ)
+abbrev pub StreamTells : {E : Type 0} → List Said → StreamWorld → BenchStreamFields → Option (List ℕ) → Option (List ℕ)
     → Result (Unit {0}) E → Type 0
-StreamTells lines next kept old new result = FsPrints old new result lines × OnOk result (BenchStreamStands kept next)
+StreamTells lines next kept old new result = Prints old new result lines × OnOk result (BenchStreamStands kept next)
 
 -- between two bus frames the ring has room for the zeros of a lost packet
 pub record HasRoom (s : StreamWorld) : Type 0 where
@@ -79,11 +81,16 @@ abbrev pub FsTellsBetween : {E : Type 0} → List FsLine → FullSpeedWorld → 
     → Result (Unit {0}) E → Type 0
 FsTellsBetween lines next kept old new result = FsPrints old new result lines × OnOk result (FsRunStandsBetween kept next)
 
+-- the same of lines that a run has, too
+abbrev pub FsSaysBetween : {E : Type 0} → List Said → FullSpeedWorld → FsRunFields → Option (List ℕ) → Option (List ℕ)
+    → Result (Unit {0}) E → Type 0
+FsSaysBetween lines next kept old new result = Prints old new result lines × OnOk result (FsRunStandsBetween kept next)
+
 -- what a bus frame brings to the stream, in a world that has gone on by it
 abbrev pub CarryTells : {E : Type 0} → Brought → FullSpeedWorld → FsRunFields → Option (List ℕ) → Option (List ℕ)
     → Result (Unit {0}) E → Type 0
 CarryTells b w kept old new result =
-    FsTellsBetween (stream_lines w.detail b.lost b.frames b.ticks w.stream) (record w { stream = settled b.lost b.frames b.ticks w.stream }) kept old
+    FsSaysBetween (stream_lines w.detail b.lost b.frames b.ticks w.stream) (record w { stream = after_frame b.lost b.frames b.ticks w.stream }) kept old
     new result
 
 -- what a bench is seen as: the stream, and whether a write failed

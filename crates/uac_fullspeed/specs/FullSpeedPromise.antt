@@ -10,9 +10,9 @@ use Rattle.uac_transcript.specs.Transcript.{says_under, says_over, says_level}
 use Rattle.uac_bench.specs.BenchStreams.{StreamWorld, level_of, arrival_of, numbered, after_ticks, with_zeros}
 use Rattle.uac_fullspeed.specs.FullSpeedNominal.{is_fs_listed}
 use Rattle.uac_fullspeed.specs.FullSpeedWorld.{FullSpeedWorld, full_speed_start, is_steady_in, size_next, ticks_next, at_ticks, ticked}
-use Rattle.uac_fullspeed.specs.FullSpeedWorld.{settled, bus_frame}
+use Rattle.uac_fullspeed.specs.FullSpeedWorld.{after_frame, bus_frame}
 use Rattle.uac_fullspeed.specs.FullSpeedLines.{FsLine, says_as_run, says_stream, frame_lines}
-use Rattle.uac_fullspeed.specs.FullSpeedSteps.{FsStep, fs_done, fs_refused, fs_step, fs_after, natural_of_int, loses_packet, loses_report}
+use Rattle.uac_fullspeed.specs.FullSpeedSteps.{FsStep, fs_done, fs_refused, fs_step, fs_after, natural_of_int, loses_packet, loses_feedback}
 
 -- ---- a level, a moment, a line
 
@@ -41,7 +41,7 @@ IsMoment packet_lost size ticks s v =
     × (v ≡ record s { arrived = s.arrived ++ numbered s.formed came }))
     ⊎ (((passed : ℕ) × (passed ≤ ticks) × (v ≡ after_ticks passed (at_ticks packet_lost size s)))
     ⊎ (((zeros : ℕ) × (packet_lost ≡ true) × (zeros ≤ ticks) × (v ≡ with_zeros zeros (ticked packet_lost size ticks s)))
-    ⊎ (v ≡ settled packet_lost size ticks s)))
+    ⊎ (v ≡ after_frame packet_lost size ticks s)))
 
 -- a printed line tells of no ring that was found empty, and of none that had no room, counts none of them, and each level of a primed stream
 -- that it tells is near its target; `whole` says whether every packet came since the stream was primed
@@ -78,7 +78,7 @@ happens_in (append_line number samples) lines next w = line_done lines next ∷ 
 happens_in (track_line number tone) lines next w = line_done lines next ∷ []
 happens_in (jack_line terminal tone) lines next w = line_done lines next ∷ []
 happens_in (deviate_line domain ppm) lines next w = line_done lines next ∷ []
-happens_in (microframes_line count marks) lines next w = frames_passed (natural_of_int count) (loses_packet marks) (loses_report marks) w
+happens_in (microframes_line count marks) lines next w = frames_passed (natural_of_int count) (loses_packet marks) (loses_feedback marks) w
 happens_in (detail_line level) lines next w = line_done lines next ∷ []
 happens_in report_line lines next w = line_done lines next ∷ []
 

@@ -1,8 +1,10 @@
 -- What each line of a script makes of a bench (profile), and what lines come to, one after the other.
-use Rattle.std.specs.Prelude.{ℕ, ◌+◌, ◌==◌, ◌&&◌, Bool, true, false, ℤ, pos, negsuc, List, [], ◌∷◌, ◌++◌, Option, None, Some, Result, Ok, Err}
-use Rattle.std.specs.List.{list_all, list_any}
+use Rattle.std.specs.Prelude.{ℕ, ◌+◌, ◌&&◌, Bool, true, false, ℤ, pos, negsuc, List, [], ◌∷◌, ◌++◌, Option, None, Some, Result, Ok, Err}
+use Rattle.std.specs.List.{list_all}
 use Rattle.uac_script.specs.declared.line.MarkKind.{MarkKind}
 use Rattle.uac_script.specs.declared.line.MarkKind.TheVariants.{Out, In, Feedback}
+use Rattle.uac_script.specs.Losses as marked
+use Rattle.uac_script.specs.Losses.{is_at}
 use Rattle.uac_script.specs.Phrase.{PhraseMark, Phrase, nothing_line, bytes_line, go_line, control_line, get_line, set_line, show_line}
 use Rattle.uac_script.specs.Phrase.{break_line, append_line, track_line, jack_line, deviate_line, microframes_line, detail_line, report_line}
 use Rattle.uac_fullspeed.specs.FullSpeedWorld.{FullSpeedWorld, bus_frames, with_deviation, with_detail}
@@ -13,36 +15,21 @@ pub data FsStep : Type 0 where
   fs_done : FullSpeedWorld → List FsLine → FsStep
   fs_refused : ℕ → FsStep
 
--- the one stream, and its clock, have the number 1
-abbrev pub is_one : ℤ → Bool
-is_one (pos n) = n == 1
-is_one (negsuc n) = false
-
--- a packet to the device and a report can be lost; there is no packet from it
+-- the one stream, and its clock, have the number 1. Its packet to the device and its report can be lost; there is no packet from it
 abbrev pub can_be_lost : MarkKind → Bool
 can_be_lost Out = true
 can_be_lost In = false
 can_be_lost Feedback = true
 
 abbrev pub is_of_stream : PhraseMark → Bool
-is_of_stream mark = can_be_lost mark.kind && is_one mark.interface
-
-abbrev pub is_out : MarkKind → Bool
-is_out Out = true
-is_out In = false
-is_out Feedback = false
-
-abbrev pub is_feedback : MarkKind → Bool
-is_feedback Out = false
-is_feedback In = false
-is_feedback Feedback = true
+is_of_stream mark = can_be_lost mark.kind && is_at mark.interface 1
 
 -- marks lose the packet, or the report
 abbrev pub loses_packet : List PhraseMark → Bool
-loses_packet marks = list_any (λ mark. is_out mark.kind) marks
+loses_packet marks = marked.loses_out marks 1
 
-abbrev pub loses_report : List PhraseMark → Bool
-loses_report marks = list_any (λ mark. is_feedback mark.kind) marks
+abbrev pub loses_feedback : List PhraseMark → Bool
+loses_feedback marks = marked.loses_feedback marks 1
 
 abbrev pub natural_of_int : ℤ → ℕ
 natural_of_int (pos n) = n
@@ -68,9 +55,9 @@ fs_step (break_line after) w = fs_refused 5
 fs_step (append_line number samples) w = fs_refused 5
 fs_step (track_line number tone) w = fs_refused 5
 fs_step (jack_line terminal tone) w = fs_refused 5
-fs_step (deviate_line domain ppm) w = unless (is_one domain) 6 (fs_done (with_deviation ppm w) [])
+fs_step (deviate_line domain ppm) w = unless (is_at domain 1) 6 (fs_done (with_deviation ppm w) [])
 fs_step (microframes_line count marks) w =
-    unless (list_all is_of_stream marks) 6 (frames_step (natural_of_int count) (loses_packet marks) (loses_report marks) w)
+    unless (list_all is_of_stream marks) 6 (frames_step (natural_of_int count) (loses_packet marks) (loses_feedback marks) w)
 fs_step (detail_line level) w = fs_done (with_detail (natural_of_int level) w) []
 fs_step report_line w = fs_done w (state_lines w)
 

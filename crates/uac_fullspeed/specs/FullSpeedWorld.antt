@@ -77,8 +77,8 @@ replaced_by false ticks s = s
 replaced_by true ticks s = with_zeros ticks s
 
 -- 4. a priming stream with enough frames becomes primed
-unfoldable pub settled : Bool → ℕ → ℕ → StreamWorld → StreamWorld
-settled packet_lost size ticks s = after_priming (replaced_by packet_lost ticks (ticked packet_lost size ticks s))
+unfoldable pub after_frame : Bool → ℕ → ℕ → StreamWorld → StreamWorld
+after_frame packet_lost size ticks s = after_priming (replaced_by packet_lost ticks (ticked packet_lost size ticks s))
 
 -- whether every packet came: nothing counts before the stream is primed
 abbrev pub whole_by : Option ℕ → Bool → Bool → Bool
@@ -96,35 +96,35 @@ passed packet_lost w =
     }
 
 -- the world up to the report
-unfoldable pub before_report : Bool → FullSpeedWorld → FullSpeedWorld
-before_report packet_lost w = record (passed packet_lost w) { stream = settled packet_lost (size_next w) (ticks_next w) w.stream }
+unfoldable pub before_feedback : Bool → FullSpeedWorld → FullSpeedWorld
+before_feedback packet_lost w = record (passed packet_lost w) { stream = after_frame packet_lost (size_next w) (ticks_next w) w.stream }
 
 -- 5. in every eighth bus frame a report is formed
-abbrev pub is_report_due : FullSpeedWorld → Bool
-is_report_due w = length w.steps % 8 == 0
+abbrev pub is_feedback_due : FullSpeedWorld → Bool
+is_feedback_due w = length w.steps % 8 == 0
 
-abbrev pub report_by : FsNominal → Option ℕ → ℕ → ℕ
-report_by nominal None level = nominal.f
-report_by nominal (Some target) level = fs_report_of nominal target level
+abbrev pub feedback_by : FsNominal → Option ℕ → ℕ → ℕ
+feedback_by nominal None level = nominal.f
+feedback_by nominal (Some target) level = fs_report_of nominal target level
 
-abbrev pub report_in : FullSpeedWorld → ℕ
-report_in w = report_by w.nominal w.stream.target (level_of w.stream)
+abbrev pub feedback_in : FullSpeedWorld → ℕ
+feedback_in w = feedback_by w.nominal w.stream.target (level_of w.stream)
 
 -- where it comes it is the value in force from the next bus frame on; where it is lost it is missed
-abbrev pub report_given : Bool → ℕ → FullSpeedWorld → FullSpeedWorld
-report_given true value w =
+abbrev pub feedback_given : Bool → ℕ → FullSpeedWorld → FullSpeedWorld
+feedback_given true value w =
     record w { stream = record w.stream { met = one_missed w.stream.met }; history = with_report_given 0 true w.history }
-report_given false value w = record w { value = value; history = with_report_given 0 false w.history }
+feedback_given false value w = record w { value = value; history = with_report_given 0 false w.history }
 
-abbrev pub reported_if : Bool → Bool → ℕ → FullSpeedWorld → FullSpeedWorld
-reported_if false lost value w = w
-reported_if true lost value w = report_given lost value w
+abbrev pub feedback_if : Bool → Bool → ℕ → FullSpeedWorld → FullSpeedWorld
+feedback_if false lost value w = w
+feedback_if true lost value w = feedback_given lost value w
 
-unfoldable pub after_report : Bool → FullSpeedWorld → FullSpeedWorld
-after_report report_lost w = reported_if (is_report_due w) report_lost (report_in w) w
+unfoldable pub after_feedback : Bool → FullSpeedWorld → FullSpeedWorld
+after_feedback report_lost w = feedback_if (is_feedback_due w) report_lost (feedback_in w) w
 
 unfoldable pub bus_frame : Bool → Bool → FullSpeedWorld → FullSpeedWorld
-bus_frame packet_lost report_lost w = after_report report_lost (before_report packet_lost w)
+bus_frame packet_lost report_lost w = after_feedback report_lost (before_feedback packet_lost w)
 
 -- so many bus frames, with these losses in each
 unfoldable pub bus_frames : ℕ → Bool → Bool → FullSpeedWorld → FullSpeedWorld

@@ -45,6 +45,7 @@ impl FsBench {
     }
 
     /// Does one line and prints its text. No line takes memory.
+    /// It is for other callers: the program's lines are done by `lent_line`.
     ///
     /// # Errors
     ///

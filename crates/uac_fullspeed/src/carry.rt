@@ -4,12 +4,12 @@ ghost use Rattle.uac_edges.specs.Faults.{HasCause};
 ghost use Rattle.uac_bench.specs.BenchStreams.{StreamWorld, after_packet, after_priming, after_tick, after_ticks, arrival_of, level_of};
 ghost use Rattle.uac_ring.specs.Rings.{ring_frames};
 ghost use Rattle.uac_bench.specs.BenchKept.{BenchStreamStands};
-ghost use Rattle.uac_fullspeed.specs.FullSpeedWorld.{replaced_by, settled};
-ghost use Rattle.uac_fullspeed.specs.FullSpeedLines.{FsPrints, level_lines, packet_lines, stream_lines, tick_lines, ticks_lines};
+ghost use Rattle.uac_fullspeed.specs.FullSpeedWorld.{replaced_by, after_frame};
+ghost use Rattle.uac_bench.specs.BenchLines.{arrival_lines};
+ghost use Rattle.uac_fullspeed.specs.FullSpeedLines.{stream_lines, tick_lines, ticks_lines};
 ghost use Rattle.uac_fullspeed.specs.FullSpeedKept.{HasRoom, StreamTells};
 
-use crate::printing::{write_level_at, write_packet, write_tick};
-use uac_bench::BenchStream;
+use uac_bench::{BenchStream, write_level_at, write_packet, write_tick};
 use uac_edges::{Failed, Sink};
 
 /// What a bus frame brings to a stream: the frames of its packet, whether that is lost, and how often the clock ticks.
@@ -28,18 +28,18 @@ pub(crate) fn carry<K: Sink>(
     sink: &mut K,
 ) -> Result<(), Failed>
     ensures tells { (s : StreamWorld) → BenchStreamStands stream.old s → HasRoom s → brought.ticks ≤ 769
-        → StreamTells (stream_lines detail brought.lost brought.frames brought.ticks s) (settled brought.lost brought.frames brought.ticks s)
+        → StreamTells (stream_lines detail brought.lost brought.frames brought.ticks s) (after_frame brought.lost brought.frames brought.ticks s)
         stream.new (K.written sink.old) (K.written sink.new) result }
     ensures cause { HasCause (K.faults sink.old) (K.faults sink.new) result }
 {
-    send(stream, detail, brought.frames, brought.lost, sink)?;
+    send_out(stream, detail, brought.frames, brought.lost, sink)?;
     play(stream, detail, brought.ticks, sink)?;
-    settle(stream, brought.lost, brought.ticks);
+    end_frame(stream, brought.lost, brought.ticks);
     write_level_at(sink, detail, stream.level(), stream.target())
 }
 
 /// The end of a bus frame: zeros in place of a lost packet, and priming.
-fn settle(stream: &mut BenchStream, lost: bool, ticks: u32)
+fn end_frame(stream: &mut BenchStream, lost: bool, ticks: u32)
     ensures { (s : StreamWorld) → BenchStreamStands stream.old s → level_of s + ticks ≤ ring_frames
         → BenchStreamStands stream.new (after_priming (replaced_by lost ticks s)) }
 {
@@ -52,7 +52,7 @@ fn settle(stream: &mut BenchStream, lost: bool, ticks: u32)
 }
 
 /// The packet of a bus frame.
-fn send<K: Sink>(
+fn send_out<K: Sink>(
     stream: &mut BenchStream,
     detail: u8,
     frames: u32,
@@ -60,7 +60,7 @@ fn send<K: Sink>(
     sink: &mut K,
 ) -> Result<(), Failed>
     ensures tells { (s : StreamWorld) → BenchStreamStands stream.old s
-        → StreamTells (packet_lines detail frames (arrival_of 1024 lost frames s)) (after_packet 1024 lost frames s) stream.new
+        → StreamTells (arrival_lines detail frames (arrival_of 1024 lost frames s)) (after_packet 1024 lost frames s) stream.new
         (K.written sink.old) (K.written sink.new) result }
     ensures cause { HasCause (K.faults sink.old) (K.faults sink.new) result }
 {
@@ -92,5 +92,5 @@ fn play_one<K: Sink>(stream: &mut BenchStream, detail: u8, sink: &mut K) -> Resu
     ensures cause { HasCause (K.faults sink.old) (K.faults sink.new) result }
 {
     let tick = stream.tick();
-    write_tick(sink, detail, tick.under, &tick.frame)
+    write_tick(sink, detail, &tick)
 }

@@ -4,6 +4,7 @@ ghost use Rattle.uac_fullspeed.specs.FullSpeedBands.{FsRatesHaveBands, FsSteadyC
 ghost use Rattle.uac_fullspeed.specs.FullSpeedBands.{FramesKeepTight, FsReportsKeepTight, FsRobustIsNear, FsTightIsNear};
 ghost use Rattle.uac_fullspeed.specs.FullSpeedBands.{FsRingsHoldEnough, FsPrimedInBands};
 ghost use Rattle.uac_fullspeed.specs.FullSpeedPromise.{FullSpeedKeepsPromises, HappeningsPrint};
+ghost use Rattle.uac_fullspeed.specs.FullSpeedMachine.{FsFrontsKeepPromises, FsHasOneTranscript, FsLinesAreSayings};
 
 /// Each of the ten rates has room, and a band of 65 frames; a steady clock is off by at most a thousandth of its rate.
 pub fn fs_rates_have_bands()
@@ -45,3 +46,13 @@ pub fn full_speed_keeps_promises()
     ensures promised { FullSpeedKeepsPromises }
     ensures printed { HappeningsPrint }
 {}
+
+/// The lines of a script come to what they say does, and the table of spellings gives a script one transcript; and of every steady front
+/// of its lines what is promised holds.
+pub fn full_speed_scripts_keep_promises()
+    ensures lines { FsLinesAreSayings }
+    ensures one { FsHasOneTranscript }
+    ensures fronts { FsFrontsKeepPromises }
+{
+    full_speed_keeps_promises();
+}

@@ -9,6 +9,8 @@ mod carry;
 mod fault;
 /// Laws, each the contract of a function that does nothing.
 pub mod laws;
+/// The bench as a machine.
+mod machine;
 /// The lines of a bench, by what they say.
 mod play;
 /// The lines that a bench prints.
@@ -24,6 +26,7 @@ mod values;
 
 pub use bench::FsBench;
 pub use fault::BenchFault;
+pub use machine::{FsScript, NothingBeside};
 pub use rates::{FS_RATES, fs_nominal};
 pub use reports::{fs_report, read_report, write_report};
 pub use values::FsNominal;

@@ -1,6 +1,6 @@
 // The lines of a bench, by what they say.
 ghost use Rattle.std.specs.Prelude.{◌≡◌, ◌≤ℤ◌, ◌==◌, ◌&&◌, ℕ, List, Option, pos, negsuc, map, IfErr};
-ghost use Rattle.std.specs.List.{list_all, list_any};
+ghost use Rattle.std.specs.List.{list_all};
 ghost use Rattle.uac_script.specs.Line.{phrase_mark};
 ghost use Rattle.uac_script.specs.Lent.{lent_phrase, IsLentInRange};
 ghost use Rattle.uac_script.specs.Phrase.{deviate_line, microframes_line, report_line};
@@ -12,7 +12,7 @@ ghost use Rattle.uac_fullspeed.specs.FullSpeedKept.{FsDoes, FsRunStandsBetween, 
 use crate::fault::BenchFault;
 use crate::run::FsRun;
 use uac_edges::Sink;
-use uac_script::{LentLine, Mark, MarkKind};
+use uac_script::{LentLine, Mark, MarkKind, loses_feedback, loses_out};
 
 /// Does a line of a bench. No line takes memory.
 ///
@@ -96,7 +96,7 @@ fn frames<K: Sink>(
     if !are_of_stream(marks) {
         return Err(BenchFault::Script(6));
     }
-    match run.frames(count, loses_packet(marks), loses_report(marks), sink) {
+    match run.frames(count, loses_out(marks, 1), loses_feedback(marks, 1), sink) {
         Ok(()) => Ok(()),
         Err(failed) => Err(BenchFault::from(failed)),
     }
@@ -123,45 +123,11 @@ fn are_of_stream(marks: &[Mark]) -> bool
         .all(|mark| can_be_lost(mark.kind) && mark.interface == 1)
 }
 
-/// Whether a mark loses the packet.
-fn loses_packet(marks: &[Mark]) -> bool
-    ensures { result ≡ list_any (λ mark. spec.is_out mark.kind) marks.now }
-{
-    marks.iter().any(|mark| is_out(mark.kind))
-}
-
-/// Whether a mark loses the report.
-fn loses_report(marks: &[Mark]) -> bool
-    ensures { result ≡ list_any (λ mark. spec.is_feedback mark.kind) marks.now }
-{
-    marks.iter().any(|mark| is_feedback(mark.kind))
-}
-
 fn can_be_lost(kind: MarkKind) -> bool
     ensures { result ≡ spec.can_be_lost kind }
 {
     match kind {
         MarkKind::Out => true,
-        MarkKind::In => false,
-        MarkKind::Feedback => true,
-    }
-}
-
-fn is_out(kind: MarkKind) -> bool
-    ensures { result ≡ spec.is_out kind }
-{
-    match kind {
-        MarkKind::Out => true,
-        MarkKind::In => false,
-        MarkKind::Feedback => false,
-    }
-}
-
-fn is_feedback(kind: MarkKind) -> bool
-    ensures { result ≡ spec.is_feedback kind }
-{
-    match kind {
-        MarkKind::Out => false,
         MarkKind::In => false,
         MarkKind::Feedback => true,
     }

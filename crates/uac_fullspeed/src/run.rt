@@ -1,23 +1,24 @@
 // A stream under way: its ring, the clock, the host's pace and the feedback.
 ghost use Rattle.std.specs.Prelude.{◌≡◌, ◌<◌, ◌≤◌, ◌+◌, ◌^◌, ◌≤ℤ◌, ◌++◌, ◌∷◌, [], ℕ, pos, negsuc, Some, IfOk};
 ghost use Rattle.uac_edges.specs.Faults.{HasCause};
+ghost use Rattle.uac_transcript.specs.Printing.{Prints};
 ghost use Rattle.uac_fullspeed.specs.FullSpeedNominal.{IsFsNominal, fs_nominal_of};
 ghost use Rattle.uac_fullspeed.specs.FullSpeedWorld as spec;
-ghost use Rattle.uac_fullspeed.specs.FullSpeedWorld.{FullSpeedWorld, after_report, before_report, bus_frame, bus_frames, full_speed_start};
-ghost use Rattle.uac_fullspeed.specs.FullSpeedWorld.{report_in, size_next, step_next, ticks_next, with_deviation, with_detail, whole_by};
-ghost use Rattle.uac_fullspeed.specs.FullSpeedLines.{FsPrints, frame_lines, frames_lines, lines_before_report, number_lines, report_lines, state_lines};
+ghost use Rattle.uac_fullspeed.specs.FullSpeedWorld.{FullSpeedWorld, after_feedback, before_feedback, bus_frame, bus_frames, full_speed_start};
+ghost use Rattle.uac_fullspeed.specs.FullSpeedWorld.{feedback_in, size_next, step_next, ticks_next, with_deviation, with_detail, whole_by};
+ghost use Rattle.uac_fullspeed.specs.FullSpeedLines.{FsPrints, frame_lines, frame_number, frames_lines, lines_before_feedback, feedback_lines, state_lines};
 ghost use Rattle.uac_fullspeed.specs.FullSpeedLines.{shown_in};
-ghost use Rattle.uac_fullspeed.specs.FullSpeedKept.{CarryTells, FsRunStands, FsRunStandsBetween, FsTellsBetween};
+ghost use Rattle.uac_fullspeed.specs.FullSpeedKept.{CarryTells, FsRunStands, FsRunStandsBetween, FsSaysBetween, FsTellsBetween};
 
 use crate::carry::{Brought, carry};
 use crate::laws::fs_rates_have_bands;
-use crate::printing::{Shown, write_number, write_report_at, write_shown};
+use crate::printing::{Shown, write_feedback_at, write_shown};
 use crate::rates::{fs_step, rate_of};
 use crate::reports::fs_report;
 use crate::values::FsNominal;
 use std::alloc::Global;
 use std::marker::Model;
-use uac_bench::{BenchClock, BenchStream};
+use uac_bench::{BenchClock, BenchStream, write_number};
 use uac_descriptor::NoMemory;
 use uac_edges::{Failed, Sink};
 use uac_rate::{Pacer, Steady};
@@ -135,14 +136,14 @@ impl FsRun {
             (K.written sink.old) (K.written sink.new) result }
         ensures cause { HasCause (K.faults sink.old) (K.faults sink.new) result }
     {
-        self.up_to_report(packet_lost, sink)?;
-        self.report(report_lost, sink)
+        self.up_to_feedback(packet_lost, sink)?;
+        self.give_feedback(report_lost, sink)
     }
 
     /// A bus frame up to its report.
-    fn up_to_report<K: Sink>(&mut self, packet_lost: bool, sink: &mut K) -> Result<(), Failed>
+    fn up_to_feedback<K: Sink>(&mut self, packet_lost: bool, sink: &mut K) -> Result<(), Failed>
         ensures tells { (w : FullSpeedWorld) → FsRunStandsBetween self.old w
-            → FsTellsBetween (lines_before_report packet_lost w) (before_report packet_lost w) self.new
+            → FsSaysBetween (lines_before_feedback packet_lost w) (before_feedback packet_lost w) self.new
             (K.written sink.old) (K.written sink.new) result }
         ensures cause { HasCause (K.faults sink.old) (K.faults sink.new) result }
     {
@@ -154,7 +155,7 @@ impl FsRun {
     /// Prints the number of the bus frame, from detail 2 on.
     fn write_number<K: Sink>(&self, sink: &mut K) -> Result<(), Failed>
         ensures printed { (w : FullSpeedWorld) → FsRunStands self.now w
-            → FsPrints (K.written sink.old) (K.written sink.new) result (number_lines w) }
+            → Prints (K.written sink.old) (K.written sink.new) result (frame_number w) }
         ensures cause { HasCause (K.faults sink.old) (K.faults sink.new) result }
     {
         write_number(sink, self.detail, self.time)
@@ -189,23 +190,23 @@ impl FsRun {
         carry(&mut self.stream, self.detail, brought, sink)
     }
 
-    /// The report, where one is due.
-    fn report<K: Sink>(&mut self, lost: bool, sink: &mut K) -> Result<(), Failed>
+    /// The feedback report, where one is due.
+    fn give_feedback<K: Sink>(&mut self, lost: bool, sink: &mut K) -> Result<(), Failed>
         ensures tells { (w : FullSpeedWorld) → FsRunStandsBetween self.old w
-            → FsTellsBetween (report_lines lost w) (after_report lost w) self.new (K.written sink.old) (K.written sink.new) result }
+            → FsTellsBetween (feedback_lines lost w) (after_feedback lost w) self.new (K.written sink.old) (K.written sink.new) result }
         ensures cause { HasCause (K.faults sink.old) (K.faults sink.new) result }
     {
         if self.since != 0 {
             return Ok(());
         }
-        let value = self.due_report();
-        self.give_report(lost, value);
-        write_report_at(sink, self.detail, value, lost)
+        let value = self.due_feedback();
+        self.bring_feedback(lost, value);
+        write_feedback_at(sink, self.detail, value, lost)
     }
 
-    /// The report of the stream as it is.
-    fn due_report(&self) -> u32
-        ensures value { (w : FullSpeedWorld) → FsRunStands self.now w → result ≡ report_in w }
+    /// The feedback report of the stream as it is.
+    fn due_feedback(&self) -> u32
+        ensures value { (w : FullSpeedWorld) → FsRunStands self.now w → result ≡ feedback_in w }
         ensures fits { result < 2 ^ 24 }
     {
         fs_rates_have_bands();
@@ -215,10 +216,10 @@ impl FsRun {
         }
     }
 
-    /// A report comes to the host, or is missed.
-    fn give_report(&mut self, lost: bool, value: u32)
+    /// A feedback report comes to the host, or is missed.
+    fn bring_feedback(&mut self, lost: bool, value: u32)
         requires { value < 2 ^ 24 }
-        ensures stands { (w : FullSpeedWorld) → FsRunStands self.old w → FsRunStands self.new (spec.report_given lost value w) }
+        ensures stands { (w : FullSpeedWorld) → FsRunStands self.old w → FsRunStands self.new (spec.feedback_given lost value w) }
         ensures detail { self.new.detail ≡ self.old.detail }
     {
         self.steady.report(0, lost);

@@ -5,7 +5,7 @@ use Rattle.std.specs.List.{range_with_len}
 use Rattle.std.proofs.lemmas.List.{take_min}
 use Rattle.uac_clock.specs.Nominal.{twelve_rates}
 use Rattle.uac_gen.specs.GeneratedDescriptor.{descriptor_of}
-use Rattle.uac_gen.specs.Generator.{next_x, draw, deviation_line, unreported_lines, unpacked_lines, rest_line, groups, feed_line, feed_lines, feed_count, lines_after_descriptor, generated_lines}
+use Rattle.uac_gen.specs.Generator.{next_x, draw, deviation_line, feedback_loss_lines, unpacked_lines, rest_line, groups, feed_line, feed_lines, feed_count, lines_after_descriptor, generated_lines}
 use Rattle.uac_gen.specs.Left.{from_groups}
 
 -- the next 64 bytes, or all that are left
@@ -21,7 +21,7 @@ report count x none = ap (λ n. from_groups n x) none
 
 -- a group, and those after it
 pub next_group : (following x : ℕ) → (let first = next_x x in let second = next_x first in let third = next_x second in
-    from_groups (following + 1) x ≡ deviation_line (draw 2001 first) ∷ (unreported_lines (draw 4 second) ++ (unpacked_lines (draw 2 third == 1) ++ rest_line (draw 4 second) (draw 2 third == 1) ∷ from_groups following third)))
+    from_groups (following + 1) x ≡ deviation_line (draw 2001 first) ∷ (feedback_loss_lines (draw 4 second) ++ (unpacked_lines (draw 2 third == 1) ++ rest_line (draw 4 second) (draw 2 third == 1) ∷ from_groups following third)))
 unfolding groups
 next_group following x =
     let first = next_x x in
@@ -32,9 +32,9 @@ next_group following x =
     let rest = groups following third in
     ap (λ n. from_groups n x) (add-one following)
     ∙ ap (λ lines. deviation_line (draw 2001 first) ∷ lines)
-    (ap (λ lines. lines ++ codes "q" ∷ []) (append_assoc (unreported_lines eights) (unpacked_lines lost ++ rest_line eights lost ∷ []) rest)
-    ∙ append_assoc (unreported_lines eights) ((unpacked_lines lost ++ rest_line eights lost ∷ []) ++ rest) (codes "q" ∷ [])
-    ∙ ap (λ lines. unreported_lines eights ++ lines)
+    (ap (λ lines. lines ++ codes "q" ∷ []) (append_assoc (feedback_loss_lines eights) (unpacked_lines lost ++ rest_line eights lost ∷ []) rest)
+    ∙ append_assoc (feedback_loss_lines eights) ((unpacked_lines lost ++ rest_line eights lost ∷ []) ++ rest) (codes "q" ∷ [])
+    ∙ ap (λ lines. feedback_loss_lines eights ++ lines)
     (ap (λ lines. lines ++ codes "q" ∷ []) (append_assoc (unpacked_lines lost) (rest_line eights lost ∷ []) rest)
     ∙ append_assoc (unpacked_lines lost) (rest_line eights lost ∷ rest) (codes "q" ∷ [])))
 
@@ -42,7 +42,7 @@ next_group following x =
 pub begun : (count x first second third drawn eights lost : ℕ) (line : List ℕ) (left : List (List ℕ))
     → 0 < count → first ≡ next_x x → second ≡ next_x first → third ≡ next_x second → drawn ≡ draw 2001 first → eights ≡ draw 4 second → lost ≡ draw 2 third
     → line ≡ deviation_line drawn
-    → left ≡ unreported_lines eights ++ (unpacked_lines (lost == 1) ++ rest_line eights (lost == 1) ∷ from_groups (count - 1) third)
+    → left ≡ feedback_loss_lines eights ++ (unpacked_lines (lost == 1) ++ rest_line eights (lost == 1) ∷ from_groups (count - 1) third)
     → from_groups count x ≡ line ∷ left
 begun count x first second third drawn eights lost line left some e1 e2 e3 ed ee el line-is left-is =
     let one : count ≡ count - 1 + 1 = omega arith in

@@ -47,9 +47,9 @@ run_line count mark = codes "m " ++ decimal count ++ mark
 abbrev pub deviation_line : ℕ → List ℕ
 deviation_line drawn = codes "k 1 " ++ numeral (pos drawn -ℤ pos 1000)
 
--- eight times so many microframes without the report
-abbrev pub unreported_lines : ℕ → List (List ℕ)
-unreported_lines eights = if eights == 0 then [] else run_line (8 * eights) (codes " f1") ∷ []
+-- eight times so many microframes that lose their feedback
+abbrev pub feedback_loss_lines : ℕ → List (List ℕ)
+feedback_loss_lines eights = if eights == 0 then [] else run_line (8 * eights) (codes " f1") ∷ []
 
 -- one microframe, perhaps, without the packet
 abbrev pub unpacked_lines : Bool → List (List ℕ)
@@ -60,7 +60,7 @@ abbrev pub rest_line : ℕ → Bool → List ℕ
 rest_line eights lost = run_line ((if lost then 31 else 32) - 8 * eights) []
 
 abbrev pub group_lines : ℕ → ℕ → Bool → List (List ℕ)
-group_lines drawn eights lost = deviation_line drawn ∷ (unreported_lines eights ++ (unpacked_lines lost ++ rest_line eights lost ∷ []))
+group_lines drawn eights lost = deviation_line drawn ∷ (feedback_loss_lines eights ++ (unpacked_lines lost ++ rest_line eights lost ∷ []))
 
 -- so many groups, each by three draws, from x on
 unfoldable pub groups : ℕ → ℕ → List (List ℕ)

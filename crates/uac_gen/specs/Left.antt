@@ -18,7 +18,7 @@ lines_left number hertz bytes x next.Rate = rate_line hertz ∷ setting_script_l
 lines_left number hertz bytes x next.Setting = setting_script_line ∷ tone_line number ∷ from_groups 250 x
 lines_left number hertz bytes x next.Tone = tone_line number ∷ from_groups 250 x
 lines_left number hertz bytes x (next.Deviation count) = from_groups count x
-lines_left number hertz bytes x (next.Unreported group) =
+lines_left number hertz bytes x (next.FeedbackLosses group) =
     run_line (8 * group.eights) (codes " f1")
     ∷ (unpacked_lines group.lost ++ rest_line group.eights group.lost ∷ from_groups group.following x)
 lines_left number hertz bytes x (next.Unpacked group) =

@@ -5,7 +5,7 @@ ghost use Rattle.uac_gen.specs.Left.{lines_left};
 
 use crate::descriptor::{Bytes, descriptor};
 use crate::draws::Draws;
-use crate::groups::{next_after_unreported, next_group, rest_line};
+use crate::groups::{next_after_feedback_losses, next_group, rest_line};
 use crate::lines::{LineText, feed_line, fixed_line, rate_line, run_line, tone_line};
 use crate::next_line::NextLine;
 use arrayvec::ArrayVec;
@@ -95,9 +95,9 @@ fn step(
         NextLine::Setting => Some((fixed_line(b"c 010b010001000000"), NextLine::Tone)),
         NextLine::Tone => Some((tone_line(number), NextLine::Deviation(250))),
         NextLine::Deviation(count) => Some(next_group(draws, count)),
-        NextLine::Unreported(group) => Some((
+        NextLine::FeedbackLosses(group) => Some((
             run_line(8 * u64::from(group.eights), b" f1"),
-            next_after_unreported(group),
+            next_after_feedback_losses(group),
         )),
         NextLine::Unpacked(group) => Some((run_line(1, b" o1"), NextLine::Rest(group))),
         NextLine::Rest(group) => Some((rest_line(group), NextLine::Deviation(group.following))),

@@ -1,6 +1,6 @@
 // The lines of a group: 32 microframes under one deviation of the clock.
 ghost use Rattle.std.specs.Prelude.{◌≡◌, ℕ, List, ◌∷◌, ◌++◌};
-ghost use Rattle.uac_gen.specs.Generator.{unreported_lines, unpacked_lines, rest_line};
+ghost use Rattle.uac_gen.specs.Generator.{feedback_loss_lines, unpacked_lines, rest_line};
 ghost use Rattle.uac_gen.specs.Left.{lines_left, from_groups};
 
 use crate::draws::Draws;
@@ -30,18 +30,18 @@ pub fn next_group(draws: &mut Draws, count: u8) -> (LineText, NextLine)
 // What comes after a group's first line.
 fn next_after_deviation(group: Group) -> NextLine
     ensures { (number hertz x : ℕ) (bytes : List ℕ) → lines_left number hertz bytes x result
-        ≡ unreported_lines group.eights
+        ≡ feedback_loss_lines group.eights
         ++ (unpacked_lines group.lost ++ rest_line group.eights group.lost ∷ from_groups group.following x) }
 {
     if group.eights > 0 {
-        NextLine::Unreported(group)
+        NextLine::FeedbackLosses(group)
     } else {
-        next_after_unreported(group)
+        next_after_feedback_losses(group)
     }
 }
 
-/// What comes after the microframes of a group that have no report.
-pub fn next_after_unreported(group: Group) -> NextLine
+/// What comes after the microframes of a group that lose their feedback.
+pub fn next_after_feedback_losses(group: Group) -> NextLine
     ensures { (number hertz x : ℕ) (bytes : List ℕ) → lines_left number hertz bytes x result
         ≡ unpacked_lines group.lost ++ rest_line group.eights group.lost ∷ from_groups group.following x }
 {

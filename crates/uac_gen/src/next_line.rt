@@ -4,7 +4,7 @@ ghost use Rattle.std.specs.Prelude.{◌<◌};
 /// What was drawn for the group that is being written, and how many groups come after it.
 #[derive(Clone, Copy, Drop)]
 pub struct Group {
-    /// How many times eight microframes have no report.
+    /// How many times eight microframes lose their feedback.
     pub eights: u8,
     /// One microframe has no packet.
     pub lost: bool,
@@ -25,8 +25,8 @@ pub enum NextLine {
     Tone,
     /// The first line of the next group, of so many; or the report.
     Deviation(u8),
-    /// The microframes of a group that have no report.
-    Unreported(Group),
+    /// The microframes of a group that lose their feedback.
+    FeedbackLosses(Group),
     /// The microframe of a group that has no packet.
     Unpacked(Group),
     /// The last line of a group.

@@ -44,7 +44,3 @@ words_push (suc k) bytes =
     let last : four_at (drop 4 bytes) (4 * k) ≡ four_at bytes (4 * suc k) = four_following 4 bytes (4 * k) (4 * suc k) (omega arith) in
     ap (λ (n : ℕ). words_in n bytes) (let e : suc k + 1 ≡ suc (k + 1) = omega arith in e)
     ∙ ap (λ (ws : List ℕ). four_at bytes 0 ∷ ws) (words_push k (drop 4 bytes) ∙ ap (λ (w : ℕ). words_in k (drop 4 bytes) ++ w ∷ []) last)
-
-pub words_length : (k : ℕ) (bytes : List ℕ) → length (words_in k bytes) ≡ k
-words_length zero bytes = refl
-words_length (suc k) bytes = ap suc (words_length k (drop 4 bytes))

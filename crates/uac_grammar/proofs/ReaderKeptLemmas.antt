@@ -5,15 +5,15 @@ use Rattle.std.proofs.lemmas.List.{take-append-drop}
 use Rattle.std.proofs.lemmas.Bool.Decides.{nat_tests}
 use Rattle.uac_descriptor.specs.BlockParsing.{AreBytes}
 use Rattle.uac_descriptor.specs.declared.block.Block.{Block}
-use Rattle.uac_sentence.specs.Fault.{IsShown, at_place, faults_from}
-use Rattle.uac_sentence.specs.Grammar.{grammar, start, state_after, first_fault, rule_at_end}
-use Rattle.uac_sentence.specs.Sentence.{spellings, IsSentence}
-use Rattle.uac_sentence.specs.declared.faults.GrammarFault.{GrammarFault}
-use Rattle.uac_sentence.specs.declared.states.State.{State}
-use Rattle.uac_sentence.proofs.FaultLemmas.{shown_stays}
-use Rattle.uac_sentence.proofs.ProgressLemmas.{nothing_read, block_read, read_faults, read_sentence, fault_at_end}
-use Rattle.uac_sentence.proofs.ProgressReachLemmas.{read_reach}
-use Rattle.uac_sentence.proofs.SentenceLemmas.{bytes_left, bytes_right}
+use Rattle.uac_grammar_rules.specs.Fault.{IsShown, at_place, faults_from}
+use Rattle.uac_grammar_rules.specs.Grammar.{grammar, start, state_after, first_fault, rule_at_end}
+use Rattle.uac_grammar_rules.specs.Sentence.{spellings, IsSentence}
+use Rattle.uac_grammar_rules.specs.declared.faults.GrammarFault.{GrammarFault}
+use Rattle.uac_grammar_rules.specs.declared.states.State.{State}
+use Rattle.uac_grammar_rules.proofs.FaultLemmas.{shown_stays}
+use Rattle.uac_grammar_rules.proofs.ProgressLemmas.{nothing_read, block_read, read_faults, read_sentence, fault_at_end}
+use Rattle.uac_grammar_rules.proofs.ProgressReachLemmas.{read_reach}
+use Rattle.uac_grammar_rules.proofs.SentenceLemmas.{at_place_none, bytes_left, bytes_right}
 use Rattle.uac_grammar.specs.declared.fault.ReadStop.{ReadStop}
 use Rattle.uac_grammar.specs.declared.fault.ReadStop.TheVariants.{Fault, NoMemory}
 use Rattle.uac_grammar.specs.ReaderKept.{IsUnstopped, most_taken, IsPartial, IsGoing, IsReaderOf}
@@ -210,15 +210,11 @@ going_bounded blocks s place pending going =
     let at = going.read.place_is in
     omega (arith, few, low, at, length-append (spellings blocks) pending)
 
-ends_fine : (place : ℕ) (rule : Option ℕ) → at_place place rule ≡ None → rule ≡ None
-ends_fine place None e = refl
-ends_fine place (Some rule) e = absurd (cc)
-
 -- without a fault at the end the blocks are a sentence
 pub going_sentence : (blocks : List Block) (s : State) (place : ℕ) (pending : List ℕ) → IsGoing blocks s place pending
     → faults_from grammar s place pending ≡ None → IsSentence (spellings blocks ++ pending) blocks
 going_sentence blocks s place [] going e =
-    let fine : rule_at_end s place ≡ None = ends_fine place (rule_at_end s place) (sym (fault_at_end s place) ∙ e) in
+    let fine : rule_at_end s place ≡ None = at_place_none place (rule_at_end s place) (sym (fault_at_end s place) ∙ e) in
     subst (λ (bytes : List ℕ). IsSentence bytes blocks) (sym (append-nil (spellings blocks)))
     (read_sentence blocks s place going.read (bytes_left (spellings blocks) [] going.bytes) fine)
 going_sentence blocks s place (x ∷ xs) going e =

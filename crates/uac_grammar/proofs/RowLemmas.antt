@@ -1,27 +1,20 @@
 -- The row of a block, from its context, its type and its subtype.
-use Rattle.std.proofs.Common.{◌≡◌, ◌≤◌, ◌<◌, ℕ, true, false, List, [], ◌∷◌, length, drop, not, refl, ap, ◌∙◌, arith, Some, None, IsTrue}
+use Rattle.std.proofs.Common.{◌≡◌, ◌≤◌, ◌<◌, ℕ, true, false, List, [], ◌∷◌, length, drop, not, refl, ap, ◌∙◌, arith, None, IsTrue}
 use Rattle.std.specs.Prelude.{slice_index}
 use Rattle.std.proofs.lemmas.Bool.Decides.{nat_tests}
 use Rattle.uac_descriptor.specs.Layout.{IsWhole, is_parting}
-use Rattle.uac_descriptor.specs.BlockParsing.{is_whole, block_of, has_length, fields}
--- under a name without a hyphen, as `using(..)` wants it
-pub use Rattle.uac_descriptor.proofs.BlockParsingLemmas.{IsWhole-is_whole as whole_is}
+use Rattle.uac_descriptor.specs.BlockParsing.{block_of, has_length}
+use Rattle.uac_descriptor.proofs.SpellingLemmas.{is_whole-IsWhole}
 use Rattle.uac_descriptor.specs.LayoutRows as rows
 use Rattle.uac_grammar.specs.Row.{read_row, has_row}
 use Rattle.uac_descriptor.specs.LayoutRows.{Row, row_beside, rows_of, row_in, row_of, control_row, streaming_row, class_endpoint_row}
 use Rattle.uac_descriptor.specs.declared.context.Context.{Context}
 use Rattle.uac_descriptor.specs.declared.context.Context.TheVariants.{DeviceFront, ControlInterface, StreamingInterface, ForeignInterface}
-use Rattle.uac_descriptor.specs.declared.block.Block.TheVariants as variant
 
--- bytes that aren't one block are read as none
-pub block_none : (context : Context) (bytes : List ℕ) → is_whole bytes ≡ false → block_of context bytes ≡ None
+-- a whole block is read by its row
+pub block_row : (context : Context) (bytes : List ℕ) → IsWhole bytes → block_of context bytes ≡ read_row (row_in context bytes) bytes
 unfolding block_of
-block_none context bytes e = rw e refl
-
--- one block is read by its row
-pub block_row : (context : Context) (bytes : List ℕ) → is_whole bytes ≡ true → block_of context bytes ≡ read_row (row_in context bytes) bytes
-unfolding block_of
-block_row context bytes e = rw e refl
+block_row context bytes whole = rw (is_whole-IsWhole bytes whole) refl
 
 -- the row of a whole block
 pub row_of_whole : (context : Context) (bytes : List ℕ) → IsWhole bytes → row_in context bytes ≡ row_beside (slice_index bytes 1) (rows_of context (drop 2 bytes)) rows.foreign
@@ -64,21 +57,12 @@ other_row ControlInterface kind rest e = grind (arith, nat_tests)
 other_row StreamingInterface kind rest e = grind (arith, nat_tests)
 other_row ForeignInterface kind rest e = grind (arith, nat_tests)
 
-whole_test : (bytes : List ℕ) → IsWhole bytes → is_whole bytes ≡ true
-unfolding is_whole
-whole_test bytes (two, e) = grind (arith, nat_tests)
-
-foreign_row : (bytes : List ℕ) → read_row rows.foreign bytes ≡ Some (variant.Foreign bytes)
-unfolding has_length fields
-foreign_row bytes = refl
-
 -- such a block is kept whole in every context
-pub whole_block : (context : Context) (bytes : List ℕ) → IsWhole bytes → has_row (slice_index bytes 1) ≡ false
-    → block_of context bytes ≡ Some (variant.Foreign bytes)
-whole_block context bytes whole e =
-    block_row context bytes (whole_test bytes whole)
+pub other_block : (context : Context) (bytes : List ℕ) → IsWhole bytes → has_row (slice_index bytes 1) ≡ false
+    → block_of context bytes ≡ read_row rows.foreign bytes
+other_block context bytes whole e =
+    block_row context bytes whole
     ∙ ap (λ (row : Row). read_row row bytes) (row_of_whole context bytes whole ∙ other_row context (slice_index bytes 1) (drop 2 bytes) e)
-    ∙ foreign_row bytes
 
 -- and doesn't part the descriptor
 pub no_row_parts : (kind : ℕ) → has_row kind ≡ false → IsTrue (not (is_parting kind))

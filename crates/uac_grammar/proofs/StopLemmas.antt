@@ -1,6 +1,6 @@
 -- A stop at a fault.
 use Rattle.std.proofs.Common.{◌≡◌, Option, None, Some}
-use Rattle.uac_sentence.specs.declared.faults.GrammarFault.{GrammarFault}
+use Rattle.uac_grammar_rules.specs.declared.faults.GrammarFault.{GrammarFault}
 use Rattle.uac_grammar.specs.declared.fault.ReadStop.TheVariants.{Fault}
 use Rattle.uac_grammar.specs.Stop.{stop_at}
 

@@ -1,14 +1,14 @@
 -- What the bytes of a block so far come to, whatever follows them.
-use Rattle.std.proofs.Common.{◌≡◌, ◌≢◌, ◌≤◌, ◌<◌, ℕ, Bool, true, false, List, [], ◌∷◌, ◌++◌, length, ap, ◌∙◌, arith, Some, None, inl, inr}
+use Rattle.std.proofs.Common.{◌≡◌, ◌≢◌, ◌≤◌, ◌<◌, ℕ, Bool, true, false, List, [], ◌∷◌, ◌++◌, length, refl, ap, ◌∙◌, arith, Option, Some, None, inl, inr}
 use Rattle.std.proofs.lemmas.Bool.{cases_lt}
 use Rattle.std.specs.Prelude.{slice_index}
 use Rattle.uac_descriptor.specs.BlockParsing.{block_of}
 use Rattle.uac_descriptor.specs.declared.block.Block.{Block}
-use Rattle.uac_sentence.specs.Cutting.{IsPiece}
-use Rattle.uac_sentence.specs.Fault.{at_place, faults_from}
-use Rattle.uac_sentence.specs.Grammar.{grammar, least, rule_broken, rule_at_end}
-use Rattle.uac_sentence.specs.declared.states.State.{State}
-use Rattle.uac_sentence.proofs.ProgressLemmas.{fault_unread, fault_broken, fault_short, fault_lone, fault_partial, fault_at_end}
+use Rattle.uac_grammar_rules.specs.Cutting.{IsPiece}
+use Rattle.uac_grammar_rules.specs.Fault.{at_place, faults_from}
+use Rattle.uac_grammar_rules.specs.Grammar.{grammar, least, rule_broken, rule_at_end}
+use Rattle.uac_grammar_rules.specs.declared.states.State.{State}
+use Rattle.uac_grammar_rules.proofs.ProgressLemmas.{fault_unread, fault_broken, fault_short, fault_lone, fault_partial, fault_at_end}
 use Rattle.uac_grammar.specs.ReaderKept.{IsPartial}
 use Rattle.uac_grammar.specs.Verdict.{Shows}
 
@@ -52,6 +52,10 @@ short_shows s place (size ∷ kind ∷ more) two below = record {
 }
 
 -- a block that its row doesn't read
+pub none_read : (read found : Option Block) → found ≡ read → ((b : Block) → found ≡ Some b → ⊥) → read ≡ None
+none_read None found e not = refl
+none_read (Some b) found e not = absurd (not b e)
+
 pub unread_shows : (s : State) (place : ℕ) (bytes : List ℕ) → IsPiece bytes → block_of s.context bytes ≡ None
     → Shows s place bytes (record { rule = 3; at = place })
 unread_shows s place bytes piece unread = record {

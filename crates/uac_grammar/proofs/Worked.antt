@@ -2,22 +2,22 @@
 use Rattle.std.proofs.Common.{◌≡◌, ℕ, List, [], ◌∷◌, Option, None, Some, refl}
 use Rattle.uac_descriptor.specs.BlockParsing.{block_of, fields, is_whole, has_length}
 use Rattle.uac_descriptor.specs.LayoutRows.{row_of, row_in}
-use Rattle.uac_sentence.specs.Cutting.{chop, chop_within}
-use Rattle.uac_sentence.specs.Fault.{faults_from}
-use Rattle.uac_sentence.specs.Grammar.{first_fault, grammar, start, rule_at_end, rule_broken, state_after, comes_again, lists_unknown, lacks_association, is_out_of_order, is_refused, passes_total, passes_list, ends_list_early, is_in_turn}
-use Rattle.uac_sentence.specs.Letter.{whole_letter, is_device, has_unknown_subtype}
-use Rattle.uac_sentence.specs.Values.{has_wrong_value, is_no_high_speed}
+use Rattle.uac_grammar_rules.specs.Cutting.{chop, chop_within}
+use Rattle.uac_grammar_rules.specs.Fault.{faults_from}
+use Rattle.uac_grammar_rules.specs.Grammar.{first_fault, grammar, start, rule_at_end, rule_broken, state_after, comes_again, lists_unknown, lacks_association, is_out_of_order, is_refused, passes_total, passes_list, ends_list_early, is_in_turn}
+use Rattle.uac_grammar_rules.specs.BlockRole.{whole_role, is_device, has_unknown_subtype}
+use Rattle.uac_grammar_rules.specs.Values.{has_wrong_value, is_no_high_speed}
 use Rattle.uac_grammar.specs.Stop.{first_stop, shown_stop}
 use Rattle.uac_grammar.specs.declared.fault.ReadStop.{ReadStop}
 use Rattle.uac_grammar.specs.declared.fault.ReadStop.TheVariants.{Fault}
 
 -- the stops, with all that they are computed by
 shown : List ℕ → Option ReadStop
-unfolding first_fault grammar start rule_at_end rule_broken state_after comes_again lists_unknown lacks_association is_out_of_order is_refused passes_total passes_list ends_list_early is_in_turn faults_from chop chop_within has_wrong_value is_no_high_speed whole_letter is_device has_unknown_subtype block_of fields is_whole has_length row_of row_in
+unfolding first_fault grammar start rule_at_end rule_broken state_after comes_again lists_unknown lacks_association is_out_of_order is_refused passes_total passes_list ends_list_early is_in_turn faults_from chop chop_within has_wrong_value is_no_high_speed whole_role is_device has_unknown_subtype block_of fields is_whole has_length row_of row_in
 shown bytes = shown_stop bytes
 
 first : List ℕ → Option ReadStop
-unfolding first_fault grammar start rule_at_end rule_broken state_after comes_again lists_unknown lacks_association is_out_of_order is_refused passes_total passes_list ends_list_early is_in_turn faults_from chop chop_within has_wrong_value is_no_high_speed whole_letter is_device has_unknown_subtype block_of fields is_whole has_length row_of row_in
+unfolding first_fault grammar start rule_at_end rule_broken state_after comes_again lists_unknown lacks_association is_out_of_order is_refused passes_total passes_list ends_list_early is_in_turn faults_from chop chop_within has_wrong_value is_no_high_speed whole_role is_device has_unknown_subtype block_of fields is_whole has_length row_of row_in
 first bytes = first_stop bytes
 
 abbrev fault : ℕ → ℕ → Option ReadStop

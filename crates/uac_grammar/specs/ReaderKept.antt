@@ -2,10 +2,9 @@
 use Rattle.std.specs.Prelude.{◌≡◌, ◌≢◌, ◌≤◌, ◌<◌, ℕ, ◌+◌, List, ◌++◌, length, slice_index, Option, Some, None}
 use Rattle.uac_descriptor.specs.BlockParsing.{AreBytes}
 use Rattle.uac_descriptor.specs.declared.block.Block.{Block}
-use Rattle.uac_sentence.specs.Progress.{HasRead}
-use Rattle.uac_sentence.specs.Sentence.{spellings}
-use Rattle.uac_sentence.specs.declared.states.State.{State}
-use Rattle.uac_sentence.specs.declared.states.TheConstants.{FURTHEST}
+use Rattle.uac_grammar_rules.specs.Progress.{HasRead}
+use Rattle.uac_grammar_rules.specs.Sentence.{spellings}
+use Rattle.uac_grammar_rules.specs.declared.states.State.{State}
 use Rattle.uac_grammar.specs.declared.fault.ReadStop.{ReadStop}
 use Rattle.uac_grammar.specs.declared.fault.ReadStop.TheVariants.{NoMemory}
 use Rattle.uac_grammar.specs.Stop.{shown_stop}
@@ -18,7 +17,7 @@ pub record ReaderFields : Type 0 where
 -- the most bytes that a reader takes without a stop: a device descriptor, a configuration of the greatest
 -- total, and all but the last byte of the longest block
 abbrev pub most_taken : ℕ
-most_taken = FURTHEST + 254
+most_taken = 18 + 65535 + 254
 
 -- a reader that may go on: nothing is wrong so far
 pub record IsUnstopped (reading : ReaderFields) : Type 0 where
@@ -36,7 +35,7 @@ pub record IsPartial (bytes : List ℕ) : Type 0 where
 pub record IsGoing (blocks : List Block) (state : State) (place : ℕ) (pending : List ℕ) : Type 0 where
   pub read : HasRead blocks state place
   pub bytes : AreBytes (spellings blocks ++ pending)
-  pub fits : place ≤ FURTHEST
+  pub fits : place ≤ 18 + 65535
   pub partial : IsPartial pending
 
 -- what holds of a reader's parts

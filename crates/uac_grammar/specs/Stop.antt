@@ -1,7 +1,7 @@
 -- The first fault as a reader tells it, and whether it can tell it before the input ends.
 use Rattle.std.specs.Prelude.{ℕ, Bool, not, ◌&&◌, ◌==◌, nat_lt, if◌then◌else◌, List, length, Option, Some, None}
-use Rattle.uac_sentence.specs.declared.faults.GrammarFault.{GrammarFault}
-use Rattle.uac_sentence.specs.Grammar.{first_fault}
+use Rattle.uac_grammar_rules.specs.declared.faults.GrammarFault.{GrammarFault}
+use Rattle.uac_grammar_rules.specs.Grammar.{first_fault}
 use Rattle.uac_grammar.specs.declared.fault.ReadStop.{ReadStop}
 use Rattle.uac_grammar.specs.declared.fault.ReadStop.TheVariants.{Fault}
 

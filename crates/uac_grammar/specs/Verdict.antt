@@ -2,11 +2,11 @@
 use Rattle.std.specs.Prelude.{◌≡◌, ℕ, ◌+◌, Bool, true, false, List, [], ◌∷◌, ◌++◌, length, max, Some, None}
 use Rattle.uac_descriptor.specs.BlockParsing.{block_of}
 use Rattle.uac_descriptor.specs.declared.block.Block.{Block}
-use Rattle.uac_sentence.specs.Cutting.{IsPiece}
-use Rattle.uac_sentence.specs.Fault.{IsShown, faults_from}
-use Rattle.uac_sentence.specs.declared.faults.GrammarFault.{GrammarFault}
-use Rattle.uac_sentence.specs.Grammar.{grammar, rule_broken, state_after}
-use Rattle.uac_sentence.specs.declared.states.State.{State}
+use Rattle.uac_grammar_rules.specs.Cutting.{IsPiece}
+use Rattle.uac_grammar_rules.specs.Fault.{IsShown, faults_from}
+use Rattle.uac_grammar_rules.specs.declared.faults.GrammarFault.{GrammarFault}
+use Rattle.uac_grammar_rules.specs.Grammar.{grammar, rule_broken, state_after}
+use Rattle.uac_grammar_rules.specs.declared.states.State.{State}
 use Rattle.uac_grammar.specs.declared.judge.Verdict.{Verdict}
 use Rattle.uac_grammar.specs.declared.judge.Verdict.TheVariants.{Partial, Kept, Stopped}
 use Rattle.uac_grammar.specs.declared.fault.ReadStop.{ReadStop}

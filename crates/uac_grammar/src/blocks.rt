@@ -1,11 +1,10 @@
 // One block from its bytes: the row by context, type and subtype, then the row's length and fields.
-ghost use Rattle.std.specs.Prelude.{◌≡◌, IfOk, slice_index, drop, false, Some};
+ghost use Rattle.std.specs.Prelude.{◌≡◌, IfOk, slice_index, drop};
 ghost use Rattle.uac_descriptor.specs.Layout.{IsWhole};
-ghost use Rattle.uac_descriptor.specs.BlockParsing.{block_of, is_whole};
+ghost use Rattle.uac_descriptor.specs.BlockParsing.{block_of};
 ghost use Rattle.uac_descriptor.specs.LayoutRows as rows;
 ghost use Rattle.uac_descriptor.specs.declared.context.Context.TheVariants as contexts;
 ghost use Rattle.uac_descriptor.specs.LayoutRows.{control_row, streaming_row, class_endpoint_row, row_in};
-ghost use Rattle.uac_descriptor.specs.declared.context.Context.{Context};
 ghost use Rattle.uac_grammar.specs.Row.{read_row, has_row};
 
 /// The class blocks of the audio control interface.
@@ -30,31 +29,28 @@ use uac_descriptor::codes::{
     HEADER, INPUT_TERMINAL, INTERFACE, INTERFACE_ASSOCIATION, MIXER_UNIT, OUTPUT_TERMINAL,
     SELECTOR_UNIT,
 };
-use uac_descriptor::{Block, ByteList, Context, Foreign, NoMemory};
+use uac_descriptor::{Block, Context, NoMemory};
 
-/// The block that these bytes are read as in this context, or none where they aren't one block or not of
-/// their row's length.
-#[tactic(auto, using(crate::proofs::RowLemmas::whole_is, crate::proofs::RowLemmas::block_none, crate::proofs::RowLemmas::block_row))]
+/// The block that a whole block's bytes are read as in this context, or none where they aren't of their row's length.
+#[tactic(auto, using(crate::proofs::RowLemmas::other_block, crate::proofs::RowLemmas::no_row_parts))]
+#[inline(always)]
 pub(crate) fn read_block(
     alloc: Global,
     context: Context,
     bytes: &[u8],
 ) -> Result<Option<Block>, NoMemory>
+    requires { IsWhole bytes.now }
     ensures { IfOk result (λ found. found ≡ block_of context bytes.now) }
 {
-    if !is_whole(bytes) {
-        return Ok(None);
-    }
-    match context {
-        Context::DeviceFront => in_front(alloc, bytes),
-        Context::ControlInterface => in_control(alloc, bytes),
-        Context::StreamingInterface => in_streaming(alloc, bytes),
-        Context::ForeignInterface => parting_block(alloc, bytes),
+    if has_row(bytes[1]) {
+        read_by_row(alloc, context, bytes)
+    } else {
+        foreign(alloc, bytes)
     }
 }
 
 /// A context may have a row of its own for a block of this type.
-pub(crate) fn has_row(kind: u8) -> bool
+fn has_row(kind: u8) -> bool
     ensures { result ≡ has_row kind }
 {
     kind == CONFIGURATION
@@ -65,25 +61,20 @@ pub(crate) fn has_row(kind: u8) -> bool
         || kind == CS_ENDPOINT
 }
 
-/// The block that these bytes are read as in every context, since none has a row for their type.
-#[tactic(auto, using(crate::proofs::RowLemmas::whole_block, crate::proofs::RowLemmas::no_row_parts))]
-#[inline(always)]
-pub(crate) fn read_whole(alloc: Global, bytes: &[u8]) -> Result<Block, NoMemory>
-    requires whole { IsWhole bytes.now }
-    requires no_row { has_row (slice_index bytes.now 1) ≡ false }
-    ensures { IfOk result (λ block. (context : Context) → block_of context bytes.now ≡ Some block) }
+/// Reads, as `read_block`, a block that a row of the layouts may read. This stands in a function of its own, so that the room that the
+/// rows take on the stack is prepared for such blocks alone.
+#[tactic(auto, using(crate::proofs::RowLemmas::block_row))]
+#[inline(never)]
+fn read_by_row(alloc: Global, context: Context, bytes: &[u8]) -> Result<Option<Block>, NoMemory>
+    requires { IsWhole bytes.now }
+    ensures { IfOk result (λ found. found ≡ block_of context bytes.now) }
 {
-    Ok(Block::Foreign(Foreign {
-        bytes: ByteList::from_slice(alloc, bytes)?,
-    }))
-}
-
-/// The first byte says how many there are, at least 2.
-#[tactic(auto, unfolding(uac_descriptor::specs::BlockParsing::is_whole))]
-fn is_whole(bytes: &[u8]) -> bool
-    ensures { result ≡ is_whole bytes.now }
-{
-    bytes.len() >= 2 && bytes[0] as usize == bytes.len()
+    match context {
+        Context::DeviceFront => in_front(alloc, bytes),
+        Context::ControlInterface => in_control(alloc, bytes),
+        Context::StreamingInterface => in_streaming(alloc, bytes),
+        Context::ForeignInterface => parting_block(alloc, bytes),
+    }
 }
 
 /// In front of every interface.

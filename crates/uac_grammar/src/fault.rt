@@ -1,7 +1,7 @@
 // Why a reader stopped.
 use std::alloc::AllocFailed;
 use uac_descriptor::{Block, NoMemory};
-use uac_sentence::GrammarFault;
+use uac_grammar_rules::GrammarFault;
 
 /// Why a reader stopped.
 #[derive(Clone, Copy, PartialEq, Eq, Debug)]

@@ -1,18 +1,17 @@
 // What the bytes of a block come to, and the end of the input.
-ghost use Rattle.std.specs.Prelude.{◌≡◌, ◌<◌, ◌≤◌, length, slice_index, MatchResult, Some};
-ghost use Rattle.uac_descriptor.specs.BlockParsing.{block_of};
-ghost use Rattle.uac_sentence.specs.Cutting.{IsPiece};
-ghost use Rattle.uac_sentence.specs.Fault.{faults_from};
-ghost use Rattle.uac_sentence.specs.Grammar.{grammar};
-ghost use Rattle.uac_sentence.specs.declared.states.TheConstants.{FURTHEST};
+ghost use Rattle.std.specs.Prelude.{◌≡◌, ◌<◌, ◌≤◌, length, slice_index, MatchResult};
+ghost use Rattle.uac_grammar_rules.specs.Cutting.{IsPiece};
+ghost use Rattle.uac_grammar_rules.specs.Fault.{faults_from};
+ghost use Rattle.uac_grammar_rules.specs.Grammar.{grammar};
+ghost use Rattle.uac_grammar_rules.specs.declared.states.TheConstants.{FURTHEST};
 ghost use Rattle.uac_grammar.specs.ReaderKept.{IsPartial};
 ghost use Rattle.uac_grammar.specs.Verdict.{IsVerdict, AddsBlock, Refuses, is_kept};
 
-use crate::blocks::{has_row, read_block, read_whole};
+use crate::blocks::read_block;
 use crate::fault::ReadStop;
 use std::alloc::Global;
 use uac_descriptor::Block;
-use uac_sentence::{GrammarFault, State};
+use uac_grammar_rules::{GrammarFault, State};
 
 /// What the bytes of a block so far come to.
 #[derive(Clone, Copy)]
@@ -75,52 +74,12 @@ fn keep(
     ensures { MatchResult result (λ _. AddsBlock blocks.old.items blocks.new.items state.old state.new place bytes.now)
         (λ stop. Refuses blocks.old.items blocks.new.items state.old state.new place bytes.now stop) }
 {
-    if has_row(bytes[1]) {
-        return keep_by_row(alloc, blocks, state, place, bytes);
-    }
-    let block = read_whole(alloc, bytes)?;
-    keep_block(blocks, state, place, bytes, block)
-}
-
-/// Reads and keeps, as `keep`, a whole block that a row of the layouts may read. This stands in a function of its own, so that the room
-/// that the rows take on the stack is prepared for such blocks alone.
-#[inline(never)]
-fn keep_by_row(
-    alloc: Global,
-    blocks: &mut Vec<Block>,
-    state: &mut State,
-    place: u32,
-    bytes: &[u8],
-) -> Result<(), ReadStop>
-    requires fits { place ≤ FURTHEST }
-    requires piece { IsPiece bytes.now }
-    ensures { MatchResult result (λ _. AddsBlock blocks.old.items blocks.new.items state.old state.new place bytes.now)
-        (λ stop. Refuses blocks.old.items blocks.new.items state.old state.new place bytes.now stop) }
-{
-    match read_block(alloc, state.context, bytes)? {
-        Some(block) => keep_block(blocks, state, place, bytes, block),
-        None => Err(ReadStop::Fault(GrammarFault { rule: 3, at: place })),
-    }
-}
-
-/// Keeps the block that these bytes at this place are read as, unless it breaks a rule.
-fn keep_block(
-    blocks: &mut Vec<Block>,
-    state: &mut State,
-    place: u32,
-    bytes: &[u8],
-    block: Block,
-) -> Result<(), ReadStop>
-    requires fits { place ≤ FURTHEST }
-    requires piece { IsPiece bytes.now }
-    requires read { block_of state.old.context bytes.now ≡ Some block }
-    ensures { MatchResult result (λ _. AddsBlock blocks.old.items blocks.new.items state.old state.new place bytes.now)
-        (λ stop. Refuses blocks.old.items blocks.new.items state.old state.new place bytes.now stop) }
-{
-    if let Some(rule) = state.rule_broken(place, bytes[0], &block) {
+    let Some(block) = read_block(alloc, state.context, bytes)? else {
+        return Err(ReadStop::Fault(GrammarFault { rule: 3, at: place }));
+    };
+    if let Err(rule) = state.judge(place, bytes[0], &block) {
         return Err(ReadStop::Fault(GrammarFault { rule, at: place }));
     }
-    state.take(place, &block);
     blocks.push(block)?;
     Ok(())
 }

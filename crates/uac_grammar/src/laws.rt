@@ -4,10 +4,10 @@ ghost use Rattle.std.specs.Prelude.{◌≡◌, ◌↔◌, ℕ, List, ◌++◌, l
 ghost use Rattle.uac_descriptor.specs.BlockParsing.{AreBytes};
 ghost use Rattle.uac_descriptor.specs.Spelling.{spelling};
 ghost use Rattle.uac_descriptor.specs.declared.block.Block.{Block};
-ghost use Rattle.uac_sentence.specs.Fault.{IsShown};
-ghost use Rattle.uac_sentence.specs.Grammar.{first_fault};
-ghost use Rattle.uac_sentence.specs.Sentence.{IsSentence};
-ghost use Rattle.uac_sentence.specs.declared.faults.GrammarFault.{GrammarFault};
+ghost use Rattle.uac_grammar_rules.specs.Fault.{IsShown};
+ghost use Rattle.uac_grammar_rules.specs.Grammar.{first_fault};
+ghost use Rattle.uac_grammar_rules.specs.Sentence.{IsSentence};
+ghost use Rattle.uac_grammar_rules.specs.declared.faults.GrammarFault.{GrammarFault};
 ghost use Rattle.uac_grammar.specs.Stop.{shown_fault, first_stop, shown_stop};
 ghost use Rattle.uac_grammar.specs.declared.fault.ReadStop.{ReadStop};
 

@@ -16,4 +16,4 @@ mod reader;
 
 pub use fault::ReadStop;
 pub use reader::Reader;
-pub use uac_sentence::GrammarFault;
+pub use uac_grammar_rules::GrammarFault;

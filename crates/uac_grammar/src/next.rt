@@ -1,7 +1,7 @@
 // The next bytes of a block: as many as it lacks, or all that are there. A fault can show only at a block's second byte, for a
 // wrong length, or at its last, so nothing is judged in between.
 ghost use Rattle.std.specs.Prelude.{◌≡◌, ◌≤◌, ◌<◌, ◌+◌, ◌++◌, [], length, take};
-ghost use Rattle.uac_sentence.specs.declared.states.TheConstants.{FURTHEST};
+ghost use Rattle.uac_grammar_rules.specs.declared.states.TheConstants.{FURTHEST};
 ghost use Rattle.uac_grammar.specs.ReaderKept.{IsPartial};
 ghost use Rattle.uac_grammar.specs.Verdict.{IsVerdict, bytes_wanted, pending_after};
 
@@ -9,7 +9,7 @@ use crate::judge::{Verdict, judge};
 use arrayvec::ArrayVec;
 use std::alloc::Global;
 use uac_descriptor::Block;
-use uac_sentence::State;
+use uac_grammar_rules::State;
 
 /// What the next bytes come to.
 #[derive(Clone, Copy)]
@@ -43,65 +43,19 @@ pub(crate) fn judge_next(
     ensures left { pending.new.items ≡ pending_after result.verdict (pending.old.items ++ take result.count bytes.now) }
 {
     if pending.is_empty() {
-        judge_front(alloc, blocks, state, place, pending, bytes)
-    } else {
-        judge_more(alloc, blocks, state, place, pending, bytes)
+        // the block is judged where it lies
+        let count = bytes_wanted(bytes[0]).min(bytes.len());
+        let front = &bytes[..count];
+        let verdict = judge(alloc, blocks, state, place, front);
+        if !verdict.is_kept() {
+            let _fits = pending.try_extend_from_slice(front);
+        }
+        return Next {
+            count,
+            size: count,
+            verdict,
+        };
     }
-}
-
-/// Judges a block where it stands, with no pending byte.
-fn judge_front(
-    alloc: Global,
-    blocks: &mut Vec<Block>,
-    state: &mut State,
-    place: u32,
-    pending: &mut ArrayVec<u8, 255>,
-    bytes: &[u8],
-) -> Next
-    requires fits { place ≤ FURTHEST }
-    requires none { pending.old.items ≡ [] }
-    requires some { 0 < length bytes.now }
-    ensures some { 0 < result.count }
-    ensures within { result.count ≤ length bytes.now }
-    ensures size { result.size ≡ result.count }
-    ensures short { result.size ≤ 255 }
-    ensures verdict { IsVerdict blocks.old.items blocks.new.items state.old state.new place (take result.count bytes.now) result.verdict }
-    ensures left { pending.new.items ≡ pending_after result.verdict (take result.count bytes.now) }
-{
-    let count = bytes_wanted(bytes[0]).min(bytes.len());
-    let front = &bytes[..count];
-    let verdict = judge(alloc, blocks, state, place, front);
-    if !verdict.is_kept() {
-        let _fits = pending.try_extend_from_slice(front);
-    }
-    Next {
-        count,
-        size: count,
-        verdict,
-    }
-}
-
-/// Judges the pending bytes with more.
-fn judge_more(
-    alloc: Global,
-    blocks: &mut Vec<Block>,
-    state: &mut State,
-    place: u32,
-    pending: &mut ArrayVec<u8, 255>,
-    bytes: &[u8],
-) -> Next
-    requires fits { place ≤ FURTHEST }
-    requires partial { IsPartial pending.old.items }
-    requires begun { 0 < length pending.old.items }
-    requires some { 0 < length bytes.now }
-    ensures some { 0 < result.count }
-    ensures within { result.count ≤ length bytes.now }
-    ensures size { result.size ≡ length pending.old.items + result.count }
-    ensures short { result.size ≤ 255 }
-    ensures verdict { IsVerdict blocks.old.items blocks.new.items state.old state.new place
-        (pending.old.items ++ take result.count bytes.now) result.verdict }
-    ensures left { pending.new.items ≡ pending_after result.verdict (pending.old.items ++ take result.count bytes.now) }
-{
     let count = (bytes_wanted(pending[0]) - pending.len()).min(bytes.len());
     let _fits = pending.try_extend_from_slice(&bytes[..count]);
     let size = pending.len();

@@ -1,7 +1,7 @@
 // The reader: descriptor bytes in, in pieces of any size, blocks or a fault out.
 ghost use Rattle.std.specs.Prelude.{◌≡◌, ◌≢◌, ◌≤◌, ◌<◌, [], ◌++◌, length, take, IsOk, IfOk, OnOk, IfErr, MatchResult, None};
-ghost use Rattle.uac_sentence.specs.Grammar.{first_fault};
-ghost use Rattle.uac_sentence.specs.Sentence.{IsSentence};
+ghost use Rattle.uac_grammar_rules.specs.Grammar.{first_fault};
+ghost use Rattle.uac_grammar_rules.specs.Sentence.{IsSentence};
 ghost use Rattle.uac_grammar.specs.ReaderKept.{ReaderFields, IsUnstopped, most_taken};
 ghost use Rattle.uac_grammar.specs.Stop.{first_stop, shown_stop};
 
@@ -12,7 +12,7 @@ use arrayvec::ArrayVec;
 use std::alloc::Global;
 use std::marker::Model;
 use uac_descriptor::Block;
-use uac_sentence::State;
+use uac_grammar_rules::State;
 
 /// Reads descriptor bytes, in pieces of any size, up to the first place that is wrong.
 #[derive(Drop)]
@@ -30,7 +30,7 @@ pub struct Reader {
 
 impl Model for Reader {
     ghost use Rattle.std.specs.Prelude.{◌++◌};
-    ghost use Rattle.uac_sentence.specs.Sentence.{spellings};
+    ghost use Rattle.uac_grammar_rules.specs.Sentence.{spellings};
     ghost use Rattle.uac_grammar.specs.ReaderKept.{ReaderFields, IsReaderOf};
 
     ghost Value = { ReaderFields };

@@ -5,8 +5,8 @@ use Rattle.std.specs.Option.{option_map_or}
 use Rattle.std.proofs.lemmas.Bool.{eqb-true, eq-eqb, or_parts, ltb-false}
 use Rattle.std.proofs.lemmas.List.{get_or_default, get_or-take, length-take-le}
 use Rattle.std.proofs.lemmas.List.Sums.{position_or_len_is}
-use Rattle.uac_walk.specs.Walk.{links, has_walk}
-use Rattle.uac_walk.proofs.WalkLemmas.{none_at}
+use Rattle.uac_topology_rules.specs.Walk.{links, has_walk}
+use Rattle.uac_topology_rules.proofs.WalkLemmas.{none_at}
 use Rattle.uac_entities.specs.Entities.{entities_of, no_cluster}
 use Rattle.uac_entities.specs.declared.entity.Cluster.{Cluster}
 use Rattle.uac_entities.specs.declared.entity.Entity.{Entity}

@@ -5,8 +5,8 @@ use Rattle.std.proofs.lemmas.Bool.{cases_lt}
 use Rattle.std.proofs.lemmas.List.{get_or_past}
 use Rattle.std.proofs.Math.ListN as listn
 use Rattle.std.proofs.Math.ListN.{length-map}
-use Rattle.uac_walk.specs.Walk.{links, has_walk}
-use Rattle.uac_walk.proofs.WalkLemmas.{none_at}
+use Rattle.uac_topology_rules.specs.Walk.{links, has_walk}
+use Rattle.uac_topology_rules.proofs.WalkLemmas.{none_at}
 use Rattle.uac_entities.specs.declared.entity.Entity.{Entity}
 use Rattle.uac_topology_rules.specs.Links.{signal_sources, signal_links}
 use Rattle.uac_topology_rules.specs.Table.{at, index_of, nothing}

@@ -1,6 +1,6 @@
 -- The law that carries all else: a wire's meaning satisfies its own equation.
 use Rattle.std.proofs.Common.{◌≡◌, ◌∙◌, ap, sym, refl, ℕ, zero, suc, false, ℤ, List, [], length, get_or, map, inl, inr, if◌then◌else◌}
-use Rattle.uac_walk.specs.Walk.{has_walk}
+use Rattle.uac_topology_rules.specs.Walk.{has_walk}
 use Rattle.uac_entities.specs.declared.entity.Entity.{Entity}
 use Rattle.uac_topology_rules.specs.Clusters.{is_input}
 use Rattle.uac_topology_rules.specs.Links.{signal_sources, signal_links}

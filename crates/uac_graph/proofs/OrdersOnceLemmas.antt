@@ -6,8 +6,8 @@ use Rattle.std.proofs.lemmas.List.Folds.{list_any_at, list_any_none}
 use Rattle.std.proofs.Math.ListN as listn
 use Rattle.std.proofs.Math.ListN.{get_or-append, length-append, length-map}
 use Rattle.std.proofs.Math.Seq.{get_or-append_seam}
-use Rattle.uac_walk.specs.Walk.{has_walk, leads, links}
-use Rattle.uac_walk.proofs.WalkLemmas.{no_way_back_lem, none_at}
+use Rattle.uac_topology_rules.specs.Walk.{has_walk, leads, links}
+use Rattle.uac_topology_rules.proofs.WalkLemmas.{no_way_back_lem, none_at}
 use Rattle.uac_entities.specs.declared.entity.Entity.{Entity}
 use Rattle.uac_topology_rules.specs.Links.{is_clock, signal_links, signal_sources}
 use Rattle.uac_topology_rules.specs.Table.{at, index_of}

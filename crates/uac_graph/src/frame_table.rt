@@ -11,7 +11,7 @@ ghost use Rattle.uac_graph.specs.Wiring.{AreSilent, AreWiresOf, frame_on, sample
 
 use crate::frames::silent;
 use crate::jobs::gather_one;
-use crate::samples::{hush, refill, sound};
+use crate::samples::{hush, refill, write_tone};
 use std::alloc::Global;
 use std::marker::Model;
 use uac_descriptor::NoMemory;
@@ -72,14 +72,14 @@ impl FrameTable {
     }
 
     /// Puts the frame of a tone at a place, which counts frames from 0, into the slot of the one that is there, on as many channels.
-    pub(crate) fn sound(&mut self, id: u8, tone: Tone, place: u64)
+    pub(crate) fn give_tone(&mut self, id: u8, tone: Tone, place: u64)
         ensures wires { (k : ℕ) → frame_on self.new k
             ≡ (if id == k then option_map (λ samples. tone_frame (length samples) tone place) (frame_on self.old id)
             else frame_on self.old k) }
         ensures fitting { (entities : List Entity) → AreWiresOf entities self.old → AreWiresOf entities self.new }
     {
         if let Some(frame) = &mut self.row[id as usize] {
-            sound(frame, tone, place);
+            write_tone(frame, tone, place);
         }
     }
 

@@ -64,6 +64,7 @@ impl Graph {
     /// One tick of a clock domain: every output terminal of the domain, and every unit on which one depends, gets the samples
     /// of its meaning under the controls held. All other wires stay. Each of these units is rendered once, however many take its
     /// signal: `steps` rises by their number. It takes no memory.
+    /// Tests alone call it: the device ticks by `tick_by`.
     pub fn tick(&self, domain: u8, store: &Store, rack: &Rack, wires: &mut Wires, steps: &mut Steps)
         requires rack { IsFitted (λ v x. (⟦<dyn Unit as Unit>⟧ v).kind_of x) rack.now }
         requires wires { AreWiresOf self.now wires.old }

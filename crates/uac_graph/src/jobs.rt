@@ -3,7 +3,7 @@ ghost use Rattle.std.specs.Prelude.{◌≡◌, ◌≤◌, ◌<◌, ◌+◌, ◌*
 ghost use Rattle.std.specs.List.{range_with_len};
 ghost use Rattle.uac_store.specs.StoreControls.{pins_of};
 ghost use Rattle.std.specs.Option.{option_map};
-ghost use Rattle.uac_units.specs.Fitting.{IsFitted};
+ghost use Rattle.uac_units.specs.Fitting.{IsFitted, slot};
 ghost use Rattle.uac_units.specs.Rendering.{in_a_row};
 ghost use Rattle.uac_units.specs.declared.jobs.UnitKind.TheVariants.{Selector};
 ghost use Rattle.uac_graph.specs.GraphControls.{controls_in};
@@ -41,18 +41,12 @@ pub(crate) fn unit_of(kind: EntityKind) -> Option<UnitKind>
 /// The rack's unit that renders an entity of this kind, None for terminals and clocks.
 pub(crate) fn unit_for(rack: &Rack, kind: EntityKind) -> Option<&dyn Unit>
     requires { IsFitted (λ v x. (⟦<dyn Unit as Unit>⟧ v).kind_of x) rack.now }
-    ensures { option_map (λ unit. kind_of unit.now) result ≡ needs.unit_of kind }
+    ensures kind { option_map (λ unit. kind_of unit.now) result ≡ needs.unit_of kind }
+    ensures slot { option_map (λ unit. unit.now) result ≡ option_map (slot rack.now) (needs.unit_of kind) }
 {
-    match kind {
-        EntityKind::Mixer => Some(rack.unit(UnitKind::Mixer)),
-        EntityKind::Selector => Some(rack.unit(UnitKind::Selector)),
-        EntityKind::Feature => Some(rack.unit(UnitKind::Feature)),
-        EntityKind::Effect => Some(rack.unit(UnitKind::Effect)),
-        EntityKind::InputTerminal
-        | EntityKind::OutputTerminal
-        | EntityKind::ClockSource
-        | EntityKind::ClockSelector
-        | EntityKind::ClockMultiplier => None,
+    match unit_of(kind) {
+        Some(kind) => Some(rack.unit(kind)),
+        None => None,
     }
 }
 

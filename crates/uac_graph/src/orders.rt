@@ -1,7 +1,7 @@
 // The order in which a clock domain's entities are rendered: each after its sources.
 ghost use Rattle.std.specs.Prelude.{◌≡◌, ◌==◌, ◌||◌, ℕ, List, [], false, IfOk, IfSome, IfNone, OnOk};
 ghost use Rattle.std.specs.List.{list_any};
-ghost use Rattle.uac_walk.specs.Walk.{has_walk};
+ghost use Rattle.uac_topology_rules.specs.Walk.{has_walk};
 ghost use Rattle.uac_entities.specs.declared.entity.Entity.{Entity};
 ghost use Rattle.uac_topology_rules.specs.Links.{is_clock, signal_links};
 ghost use Rattle.uac_topology_rules.specs.Table.{index_of};

@@ -76,7 +76,7 @@ fn write_zeros(samples: &mut [i32])
 }
 
 /// Makes a frame that of a tone at a place, which counts frames from 0, on as many channels.
-pub(crate) fn sound(frame: &mut Frame, tone: Tone, place: u64)
+pub(crate) fn write_tone(frame: &mut Frame, tone: Tone, place: u64)
     ensures { frame.new.items ≡ tone_frame (length frame.old.items) tone place }
 {
     tone.write(place, frame.as_mut_slice());

@@ -79,13 +79,13 @@ impl Wires {
     }
 
     /// The frame of a tone at a place, which counts frames from 0, on the wire of an input terminal.
-    pub fn sound(&mut self, terminal: u8, tone: Tone, place: u64)
+    pub fn give_tone(&mut self, terminal: u8, tone: Tone, place: u64)
         ensures wires { (id : ℕ) → frame_on self.new id ≡ (if terminal == id
             then option_map (λ samples. tone_frame (length samples) tone place) (frame_on self.old terminal)
             else frame_on self.old id) }
         ensures fitting { (entities : List Entity) → AreWiresOf entities self.old → AreWiresOf entities self.new }
     {
-        self.frames.sound(terminal, tone, place);
+        self.frames.give_tone(terminal, tone, place);
     }
 
     /// The frame on an entity's wire, None exactly where it has none.

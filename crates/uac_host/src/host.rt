@@ -93,7 +93,7 @@ impl Host {
         ensures stands { (w : HostWorld) → HostStands self.old w → HostStands self.new (after_host_packet interface w) }
     {
         match self.stream_index(interface) {
-            Some(index) => self.host_streams[index].send(packet),
+            Some(index) => self.host_streams[index].send_out(packet),
             None => {
                 packet.clear();
                 0
@@ -106,7 +106,7 @@ impl Host {
         ensures stands { (w : HostWorld) → HostStands self.old w → HostStands self.new (with_report interface value w) }
     {
         match self.stream_index(interface) {
-            Some(index) => self.host_streams[index].report(value),
+            Some(index) => self.host_streams[index].take_report(value),
             None => {}
         }
     }

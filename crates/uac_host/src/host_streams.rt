@@ -46,18 +46,18 @@ impl HostStream {
     }
 
     /// A feedback report of the stream came.
-    pub(crate) fn report(&mut self, value: u32)
+    pub(crate) fn take_report(&mut self, value: u32)
         ensures { self.new ≡ record self.old { pace = option_map (kept_report value) self.old.pace } }
     {
         match &mut self.pace {
-            Some(pace) => pace.report(value),
+            Some(pace) => pace.take_report(value),
             None => {}
         }
     }
 
     /// Makes the packet the next frames of the track, as many as the stream's pace gives, and answers how many these are. Where no stream
     /// runs there are none.
-    pub(crate) fn send(&mut self, packet: &mut Packet) -> u32
+    pub(crate) fn send_out(&mut self, packet: &mut Packet) -> u32
         ensures size { (w : HostWorld) → IsKeptStream w self.old → result ≡ size_of w self.old.interface }
         ensures packet { (w : HostWorld) → IsKeptStream w self.old → packet.new.items ≡ packet_of w self.old.interface }
         ensures stands { (w : HostWorld) → IsKeptStream w self.old

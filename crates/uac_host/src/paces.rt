@@ -67,7 +67,7 @@ impl Pace {
     }
 
     /// A feedback report came: its value is in force, clamped between the least and the greatest packet.
-    pub(crate) fn report(&mut self, value: u32)
+    pub(crate) fn take_report(&mut self, value: u32)
         ensures { self.new ≡ record self.old { value = spec.within_nominal self.old.stream value } }
     {
         nominal_values_leave_room();

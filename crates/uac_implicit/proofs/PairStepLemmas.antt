@@ -9,7 +9,9 @@ use Rattle.uac_transcript.specs.Printing.{text_of}
 use Rattle.uac_implicit.specs.declared.fault.PairFault.{PairFault}
 use Rattle.uac_implicit.specs.declared.fault.PairFault.TheVariants as faults
 use Rattle.uac_implicit.specs.Following.{PairWorld}
-use Rattle.uac_implicit.specs.PairLines.{PairSaid, printed, pair_spelling, pair_text, PairStep, pair_done, pair_refused, pair_unless, pair_step, is_number}
+use Rattle.uac_script.specs.Losses.{is_at}
+use Rattle.uac_transcript.proofs.PrintingLemmas.{spelt-mapped}
+use Rattle.uac_implicit.specs.PairLines.{PairSaid, printed, pair_spelling, pair_text, PairStep, pair_done, pair_refused, pair_unless, pair_step}
 use Rattle.uac_implicit.specs.PairKept.{PairRunFields, PairRunStands, PairFields, PairStands, PairReaches, IsPairCut, PairDoes, PairAnswers}
 
 -- the rule holds, and the step was made, or a write failed in its midst; or the rule is broken
@@ -27,14 +29,13 @@ pub broken_by : (b : Bool) (rule : ℕ) (s : PairStep) → b ≡ false → pair_
 broken_by true rule s e = absurd (cc)
 broken_by false rule s e = refl
 
-pub number_by : (domain : ℕ) → domain ≡ 1 → is_number 1 (pos domain) ≡ true
+pub number_by : (domain : ℕ) → domain ≡ 1 → is_at (pos domain) 1 ≡ true
 number_by domain is = ap (λ (n : ℕ). n == 1) is
 
 -- lines that a run prints, too, have the same text
 pub printed_text : (lines : List Said) → pair_text (map printed lines) ≡ text_of lines
 unfolding pair_spelling
-printed_text [] = refl
-printed_text (said ∷ lines) = ap (λ (text : List ℕ). spelling_of said ++ text) (printed_text lines)
+printed_text lines = spelt-mapped pair_spelling printed lines
 
 pub answers_same : (p q : Phrase) (w : PairWorld) (pair : PairFields) (written written' : Option (List ℕ)) (result : Result (Unit {0}) PairFault)
     → p ≡ q → PairAnswers p w pair written written' result → PairAnswers q w pair written written' result

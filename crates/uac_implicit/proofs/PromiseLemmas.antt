@@ -6,15 +6,17 @@ use Rattle.uac_clock.specs.Nominal.{StaysBetweenWholes, nominal_of, values_of}
 use Rattle.uac_rate.specs.Levels.{Within}
 use Rattle.uac_script.specs.Phrase.{Phrase, nothing_line, bytes_line, go_line, control_line, get_line, set_line, show_line, break_line}
 use Rattle.uac_script.specs.Phrase.{append_line, track_line, jack_line, deviate_line, microframes_line, detail_line, report_line}
+use Rattle.uac_script.specs.Losses.{is_at}
 use Rattle.uac_units.specs.Hearing.{at_most_u64}
 use Rattle.uac_ring.specs.declared.arrival.Arrival.{Arrival}
 use Rattle.uac_ring.specs.declared.arrival.Arrival.TheVariants as arrivals
 use Rattle.uac_ring.specs.declared.counts.StreamCounts.{StreamCounts}
-use Rattle.uac_transcript.specs.Transcript.{Said, says_time, says_out, says_over, says_in, says_frame, says_under, says_played, says_level, says_passed, says_domain}
+use Rattle.uac_transcript.specs.Transcript.{Said, says_microframe, says_out, says_over, says_in, says_frame, says_under, says_played, says_level, says_time, says_domain}
 use Rattle.uac_bench.specs.BenchStreams.{StreamWorld, level_of, arrival_of, is_dry, played_in}
 use Rattle.uac_implicit.specs.declared.marks.Losses.{Losses}
-use Rattle.uac_implicit.specs.Following.{PairWorld, pair_start, most_frames, size_next, ticks_next, sent_in, sent_out, at_ticks, tick, times, lines_times, ticks, microframe, microframes, if_said, over_lines, arrival_lines, out_lines, in_lines, tick_lines, ticks_lines, time_lines, level_lines, packet_lines, microframe_lines, microframes_lines}
-use Rattle.uac_implicit.specs.PairLines.{PairSaid, printed, says_pair_out, says_pair_in, PairStep, PairAfter, pair_done, pair_refused, pair_unless, pair_silently, pair_microframes, pair_said_step, pair_and_then, pair_after, pair_report, losses_of, natural, is_number, is_of_pair}
+use Rattle.uac_bench.specs.BenchLines.{if_said, over_lines, arrival_lines}
+use Rattle.uac_implicit.specs.Following.{PairWorld, pair_start, most_frames, size_next, ticks_next, sent_in, sent_out, at_ticks, tick, times, lines_times, ticks, microframe, microframes, out_lines, in_lines, tick_lines, ticks_lines, numbered_lines, level_lines, packet_lines, microframe_lines, microframes_lines}
+use Rattle.uac_implicit.specs.PairLines.{PairSaid, printed, says_pair_out, says_pair_in, PairStep, PairAfter, pair_done, pair_refused, pair_unless, pair_silently, pair_microframes, pair_said_step, pair_and_then, pair_after, pair_report, losses_of, natural, is_of_pair}
 use Rattle.uac_implicit.specs.FollowingBands.{moments_of, line_moments, said_moments, and_then_moments, moments_after, SaysSlight, FewStray, IsNearBy, IsNearPair, StaysNear, IsNearTold, IsKeptLine, IsPromisedPair}
 use Rattle.uac_implicit.proofs.StreamMovesLemmas.{at_first, packet_fits, primed_tick, priming_tick}
 use Rattle.uac_implicit.proofs.PairLemmas.{Good, start_good, set_good, good_near, HasEnough, good_enough, sent_moves, turn_good}
@@ -58,7 +60,7 @@ lines_near (Ok (append_line interface samples) ∷ saids) w good few slight = tt
 lines_near (Ok (track_line interface tone) ∷ saids) w good few slight = tt
 lines_near (Ok (jack_line terminal tone) ∷ saids) w good few slight = tt
 lines_near (Ok (deviate_line domain ppm) ∷ saids) w good few slight =
-    silent_near (is_number 1 domain) (record w { deviation = ppm }) (moments_after saids)
+    silent_near (is_at domain 1) (record w { deviation = ppm }) (moments_after saids)
     (lines_near saids (record w { deviation = ppm }) (set_good w ppm w.detail slight.0 good) few slight.1)
 lines_near (Ok (microframes_line count marks) ∷ saids) w good few slight =
     ran_near _ (losses_of marks) (natural count) w (moments_after saids) good few (λ v g f. lines_near saids v g f slight.1)
@@ -79,8 +81,8 @@ all_near (w ∷ more) near few = let n = near few.0 in (n.0, all_near more n.1 f
 abbrev Kept : Said → Type 0
 Kept said = IsKeptLine (printed said)
 
-quiet_time : (n : ℕ) → Kept (says_time n)
-quiet_time n = record { no_under = λ i e. cc; no_over = λ i e. cc; near = λ i l t e. absurd (cc); reported = λ l t m e. absurd (cc) }
+quiet_microframe : (n : ℕ) → Kept (says_microframe n)
+quiet_microframe n = record { no_under = λ i e. cc; no_over = λ i e. cc; near = λ i l t e. absurd (cc); reported = λ l t m e. absurd (cc) }
 
 quiet_out : (i n : ℕ) (a : Arrival) → Kept (says_out i n a)
 quiet_out i n a = record { no_under = λ i e. cc; no_over = λ i e. cc; near = λ i l t e. absurd (cc); reported = λ l t m e. absurd (cc) }
@@ -94,8 +96,8 @@ quiet_frame i frame = record { no_under = λ i e. cc; no_over = λ i e. cc; near
 quiet_played : (i : ℕ) (frame : List ℤ) → Kept (says_played i frame)
 quiet_played i frame = record { no_under = λ i e. cc; no_over = λ i e. cc; near = λ i l t e. absurd (cc); reported = λ l t m e. absurd (cc) }
 
-quiet_passed : (n : ℕ) → Kept (says_passed n)
-quiet_passed n = record { no_under = λ i e. cc; no_over = λ i e. cc; near = λ i l t e. absurd (cc); reported = λ l t m e. absurd (cc) }
+quiet_time : (n : ℕ) → Kept (says_time n)
+quiet_time n = record { no_under = λ i e. cc; no_over = λ i e. cc; near = λ i l t e. absurd (cc); reported = λ l t m e. absurd (cc) }
 
 quiet_domain : (d : ℕ) (rate : Option ℕ) (n : ℕ) → Kept (says_domain d rate n)
 quiet_domain d rate n = record { no_under = λ i e. cc; no_over = λ i e. cc; near = λ i l t e. absurd (cc); reported = λ l t m e. absurd (cc) }
@@ -209,8 +211,8 @@ microframe_kept losses w good few fewer =
     let near = good_near next (turn_good losses w few good) in
     let rest = ticks_lines (ticks_next w) (at_ticks losses w) ++ level_lines next in
     let packets = out_lines losses.loses_out w ++ in_lines losses.loses_in (sent_out losses.loses_out w) in
-    All-append Kept (time_lines w) (packets ++ rest)
-    (if_kept (nat_le 2 w.detail) (says_time (at_most_u64 (suc w.time)) ∷ []) (one (says_time (at_most_u64 (suc w.time))) (quiet_time (at_most_u64 (suc w.time)))))
+    All-append Kept (numbered_lines w) (packets ++ rest)
+    (if_kept (nat_le 2 w.detail) (says_microframe (at_most_u64 (suc w.time)) ∷ []) (one (says_microframe (at_most_u64 (suc w.time))) (quiet_microframe (at_most_u64 (suc w.time)))))
     (All-append Kept packets rest
     (All-append Kept (out_lines losses.loses_out w) (in_lines losses.loses_in (sent_out losses.loses_out w)) (out_kept losses.loses_out w has.fits)
     (in_kept losses.loses_in (sent_out losses.loses_out w)))
@@ -259,10 +261,10 @@ ran_kept false losses count w go then good few kept all = All-nil IsKeptLine
 report_kept : (w : PairWorld) → Good w → FewStray w → All IsKeptLine (pair_report w)
 unfolding pair_report
 report_kept w good few =
-    let passed = says_passed (at_most_u64 w.time) in
+    let time = says_time (at_most_u64 w.time) in
     let domain = says_domain 1 (Some w.rate) (at_most_u64 (sum w.steps / 65536)) in
     let out = says_pair_out (level_of w.out) w.out.target w.out.met in
-    All-cons IsKeptLine (printed passed) (printed domain ∷ out ∷ says_pair_in w.in_lost ∷ []) (quiet_passed (at_most_u64 w.time))
+    All-cons IsKeptLine (printed time) (printed domain ∷ out ∷ says_pair_in w.in_lost ∷ []) (quiet_time (at_most_u64 w.time))
     (All-cons IsKeptLine (printed domain) (out ∷ says_pair_in w.in_lost ∷ []) (quiet_domain 1 (Some w.rate) (at_most_u64 (sum w.steps / 65536)))
     (All-cons IsKeptLine out (says_pair_in w.in_lost ∷ []) (kept_pair_out w few (good_near w good))
     (All-cons IsKeptLine (says_pair_in w.in_lost) [] (quiet_pair_in w.in_lost) (All-nil IsKeptLine))))
@@ -284,7 +286,7 @@ lines_kept (Ok (append_line interface samples) ∷ saids) w good few slight all 
 lines_kept (Ok (track_line interface tone) ∷ saids) w good few slight all = All-nil IsKeptLine
 lines_kept (Ok (jack_line terminal tone) ∷ saids) w good few slight all = All-nil IsKeptLine
 lines_kept (Ok (deviate_line domain ppm) ∷ saids) w good few slight all =
-    silent_kept (is_number 1 domain) w (record w { deviation = ppm }) (moments_after saids) (pair_after saids)
+    silent_kept (is_at domain 1) w (record w { deviation = ppm }) (moments_after saids) (pair_after saids)
     (lines_kept saids (record w { deviation = ppm }) (set_good w ppm w.detail slight.0 good) few slight.1) all
 lines_kept (Ok (microframes_line count marks) ∷ saids) w good few slight all =
     ran_kept _ (losses_of marks) (natural count) w (moments_after saids) (pair_after saids) good few (λ v g f. lines_kept saids v g f slight.1) all

@@ -4,9 +4,10 @@ use Rattle.std.proofs.lemmas.List.{append-nil}
 use Rattle.uac_units.specs.Hearing.{at_most_u64}
 use Rattle.uac_ring.specs.declared.arrival.Arrival.{Arrival}
 use Rattle.uac_ring.specs.declared.counts.StreamCounts.{StreamCounts}
-use Rattle.uac_transcript.specs.Transcript.{Said, spelling_of, says_in, says_frame, says_under, says_played, says_passed, says_domain}
+use Rattle.uac_transcript.specs.Transcript.{Said, spelling_of, says_in, says_frame, says_under, says_played, says_time, says_domain}
 use Rattle.uac_bench.specs.BenchStreams.{StreamWorld, level_of, arrival_of, played_in, is_dry}
-use Rattle.uac_implicit.specs.Following.{PairWorld, most_frames, size_next, if_said, arrival_lines, out_lines, in_lines, tick_lines}
+use Rattle.uac_bench.specs.BenchLines.{if_said, arrival_lines}
+use Rattle.uac_implicit.specs.Following.{PairWorld, most_frames, size_next, out_lines, in_lines, tick_lines}
 use Rattle.uac_implicit.specs.PairLines.{PairSaid, printed, says_pair_out, says_pair_in, pair_spelling, pair_text, pair_report}
 
 pub always : {T E : Type 0} (r : Result T E) (P : Type 0) → P → OnOk r P
@@ -36,8 +37,8 @@ tick_told detail under frame w d u f =
     ∙ ap (λ (b : Bool). if_said b (says_under 1 ∷ []) ++ if_said (nat_le 1 w.detail) (says_played 1 frame ∷ [])) u
     ∙ ap (λ (x : List ℤ). if_said (is_dry w.out) (says_under 1 ∷ []) ++ if_said (nat_le 1 w.detail) (says_played 1 x ∷ [])) f
 
-abbrev pub passed_text : PairWorld → List ℕ
-passed_text w = spelling_of (says_passed (at_most_u64 w.time))
+abbrev pub time_text : PairWorld → List ℕ
+time_text w = spelling_of (says_time (at_most_u64 w.time))
 
 abbrev pub domain_text : PairWorld → List ℕ
 domain_text w = spelling_of (says_domain 1 (Some w.rate) (at_most_u64 (sum w.steps / 65536)))
@@ -48,6 +49,6 @@ out_text w = pair_spelling (says_pair_out (level_of w.out) w.out.target w.out.me
 abbrev pub in_text : PairWorld → List ℕ
 in_text w = pair_spelling (says_pair_in w.in_lost)
 
-pub report_is : (w : PairWorld) → passed_text w ++ (domain_text w ++ (out_text w ++ in_text w)) ≡ pair_text (pair_report w)
+pub report_is : (w : PairWorld) → time_text w ++ (domain_text w ++ (out_text w ++ in_text w)) ≡ pair_text (pair_report w)
 unfolding pair_report pair_spelling
-report_is w = ap (λ (text : List ℕ). passed_text w ++ (domain_text w ++ (out_text w ++ text))) (sym (append-nil (in_text w)))
+report_is w = ap (λ (text : List ℕ). time_text w ++ (domain_text w ++ (out_text w ++ text))) (sym (append-nil (in_text w)))

@@ -7,10 +7,9 @@ use Rattle.uac_clock.specs.Nominal.{values_of, step_of}
 use Rattle.uac_clock.specs.Ticks.{ticks_in}
 use Rattle.uac_rate.specs.PacketSizes.{frames_in_packet}
 use Rattle.uac_units.specs.Hearing.{at_most_u64}
-use Rattle.uac_ring.specs.declared.arrival.Arrival.{Arrival}
-use Rattle.uac_ring.specs.declared.arrival.Arrival.TheVariants as arrivals
-use Rattle.uac_transcript.specs.Transcript.{Said, says_time, says_out, says_over, says_in, says_frame, says_under, says_played, says_level}
+use Rattle.uac_transcript.specs.Transcript.{Said, says_in, says_frame}
 use Rattle.uac_implicit.specs.declared.marks.Losses.{Losses}
+use Rattle.uac_bench.specs.BenchLines.{if_said, number_lines, arrival_lines, ticked_lines, told_level}
 use Rattle.uac_bench.specs.BenchStreams.{StreamWorld, stream_start, level_of, arrival_of, after_packet, played_in, after_tick, is_dry, with_zeros, after_priming}
 
 pub record PairWorld : Type 0 where
@@ -143,19 +142,6 @@ microframes losses count w = times (microframe losses) count w
 
 -- ---- what is printed
 
--- a line, where it is said
-abbrev pub if_said : Bool → List Said → List Said
-if_said true lines = lines
-if_said false lines = []
-
-abbrev pub over_lines : Arrival → List Said
-over_lines arrivals.Taken = []
-over_lines arrivals.Lost = []
-over_lines arrivals.Over = says_over 1 ∷ []
-
-abbrev pub arrival_lines : ℕ → ℕ → Arrival → List Said
-arrival_lines detail size arrived = if_said (nat_le 2 detail) (says_out 1 size arrived ∷ []) ++ over_lines arrived
-
 unfoldable pub out_lines : Bool → PairWorld → List Said
 out_lines lost w = arrival_lines w.detail (size_next w) (arrival_of most_frames lost (size_next w) w.out)
 
@@ -165,17 +151,16 @@ in_lines lost w =
     ++ if_said (nat_le 1 w.detail && not lost) (map (says_frame 2) w.waiting)
 
 unfoldable pub tick_lines : PairWorld → List Said
-tick_lines w =
-    if_said (is_dry w.out) (says_under 1 ∷ []) ++ if_said (nat_le 1 w.detail) (says_played 1 (played_in w.out) ∷ [])
+tick_lines w = ticked_lines w.detail (is_dry w.out) (played_in w.out)
 
 abbrev pub ticks_lines : ℕ → PairWorld → List Said
 ticks_lines count w = lines_times tick_lines tick count w
 
-abbrev pub time_lines : PairWorld → List Said
-time_lines w = if_said (nat_le 2 w.detail) (says_time (at_most_u64 (suc w.time)) ∷ [])
+abbrev pub numbered_lines : PairWorld → List Said
+numbered_lines w = number_lines w.detail (at_most_u64 (suc w.time))
 
 abbrev pub level_lines : PairWorld → List Said
-level_lines w = if_said (nat_le 2 w.detail) (says_level 1 (level_of w.out) w.out.target ∷ [])
+level_lines w = told_level w.detail (level_of w.out) w.out.target
 
 -- the lines of a microframe
 unfoldable pub packet_lines : Losses → PairWorld → List Said
@@ -183,7 +168,7 @@ packet_lines losses w = out_lines losses.loses_out w ++ in_lines losses.loses_in
 
 unfoldable pub microframe_lines : Losses → PairWorld → List Said
 microframe_lines losses w =
-    time_lines w ++ (packet_lines losses w ++ (ticks_lines (ticks_next w) (at_ticks losses w) ++ level_lines (microframe losses w)))
+    numbered_lines w ++ (packet_lines losses w ++ (ticks_lines (ticks_next w) (at_ticks losses w) ++ level_lines (microframe losses w)))
 
 abbrev pub microframes_lines : Losses → ℕ → PairWorld → List Said
 microframes_lines losses count w = lines_times (microframe_lines losses) (microframe losses) count w

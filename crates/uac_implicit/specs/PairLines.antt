@@ -1,13 +1,15 @@
 -- What each line of a script makes of a pair, and what it prints (profile).
-use Rattle.std.specs.Prelude.{◌≡◌, ℕ, ◌+◌, ◌==◌, ◌/◌, ◌&&◌, Bool, true, false, ℤ, pos, negsuc, List, [], ◌∷◌, ◌++◌, map, flat_map, sum, Option, None, Some, Result, Ok, Err, codes, decimal}
-use Rattle.std.specs.List.{list_all, list_any}
+use Rattle.std.specs.Prelude.{◌≡◌, ℕ, ◌+◌, ◌/◌, Bool, true, false, ℤ, pos, negsuc, List, [], ◌∷◌, ◌++◌, map, flat_map, sum, Option, None, Some, Result, Ok, Err, codes, decimal}
+use Rattle.std.specs.List.{list_all}
 use Rattle.uac_units.specs.Hearing.{at_most_u64}
 use Rattle.uac_script.specs.declared.line.MarkKind.{MarkKind}
 use Rattle.uac_script.specs.declared.line.MarkKind.TheVariants as mark_kinds
 use Rattle.uac_script.specs.Phrase.{PhraseMark, Phrase, nothing_line, bytes_line, go_line, control_line, get_line, set_line, show_line, break_line}
+use Rattle.uac_script.specs.Losses as marked
+use Rattle.uac_script.specs.Losses.{is_at}
 use Rattle.uac_script.specs.Phrase.{append_line, track_line, jack_line, deviate_line, microframes_line, detail_line, report_line}
 use Rattle.uac_ring.specs.declared.counts.StreamCounts.{StreamCounts}
-use Rattle.uac_transcript.specs.Transcript.{Said, spelling_of, number_or_dash, says_passed, says_domain}
+use Rattle.uac_transcript.specs.Transcript.{Said, spelling_of, with_stream, says_time, says_domain}
 use Rattle.uac_bench.specs.BenchStreams.{level_of}
 use Rattle.uac_implicit.specs.declared.marks.Losses.{Losses}
 use Rattle.uac_implicit.specs.Following.{PairWorld, microframes, microframes_lines}
@@ -25,9 +27,7 @@ pub data PairSaid : Type 0 where
 -- a line's bytes, with the newline
 unfoldable pub pair_spelling : PairSaid → List ℕ
 pair_spelling (printed said) = spelling_of said
-pair_spelling (says_pair_out level target met) =
-    codes "stream 1 out level " ++ decimal level ++ codes " target " ++ number_or_dash target ++ codes " under " ++ decimal met.under
-    ++ codes " over " ++ decimal met.over ++ codes " lost " ++ decimal met.lost ++ codes "\n"
+pair_spelling (says_pair_out level target met) = with_stream (codes "stream 1 out") level target met ++ codes "\n"
 pair_spelling (says_pair_in lost) = codes "stream 2 in lost " ++ decimal lost ++ codes "\n"
 
 -- the lines, one after the other
@@ -37,35 +37,19 @@ pair_text lines = flat_map pair_spelling lines
 -- the report
 unfoldable pub pair_report : PairWorld → List PairSaid
 pair_report w =
-    printed (says_passed (at_most_u64 w.time)) ∷ printed (says_domain 1 (Some w.rate) (at_most_u64 (sum w.steps / 65536)))
+    printed (says_time (at_most_u64 w.time)) ∷ printed (says_domain 1 (Some w.rate) (at_most_u64 (sum w.steps / 65536)))
     ∷ says_pair_out (level_of w.out) w.out.target w.out.met ∷ says_pair_in w.in_lost ∷ []
 
 -- ---- what a line asks for
-
--- a number as it is spelt is this one
-abbrev pub is_number : ℕ → ℤ → Bool
-is_number n (pos m) = m == n
-is_number n (negsuc m) = false
 
 abbrev pub natural : ℤ → ℕ
 natural (pos n) = n
 natural (negsuc n) = 0
 
--- a mark is of the packet to the device, of the packet from it, or of a report
-abbrev pub marks_out : MarkKind → Bool
-marks_out mark_kinds.Out = true
-marks_out mark_kinds.In = false
-marks_out mark_kinds.Feedback = false
-
-abbrev pub marks_in : MarkKind → Bool
-marks_in mark_kinds.Out = false
-marks_in mark_kinds.In = true
-marks_in mark_kinds.Feedback = false
-
 -- a pair has the stream 1 to the device and the stream 2 from it, and no reports
 abbrev pub is_of_pair_by : MarkKind → ℤ → Bool
-is_of_pair_by mark_kinds.Out interface = is_number 1 interface
-is_of_pair_by mark_kinds.In interface = is_number 2 interface
+is_of_pair_by mark_kinds.Out interface = is_at interface 1
+is_of_pair_by mark_kinds.In interface = is_at interface 2
 is_of_pair_by mark_kinds.Feedback interface = false
 
 abbrev pub is_of_pair : PhraseMark → Bool
@@ -74,8 +58,8 @@ is_of_pair mark = is_of_pair_by mark.kind mark.interface
 -- what is lost in each microframe, by marks that are all of a pair
 abbrev pub losses_of : List PhraseMark → Losses
 losses_of marks = record {
-  loses_out = list_any (λ mark. marks_out mark.kind) marks;
-  loses_in = list_any (λ mark. marks_in mark.kind) marks;
+  loses_out = marked.loses_out marks 1;
+  loses_in = marked.loses_in marks 2;
 }
 
 -- ---- what a line makes of the world
@@ -107,7 +91,7 @@ pair_step (break_line after) w = pair_refused 5
 pair_step (append_line interface samples) w = pair_refused 5
 pair_step (track_line interface tone) w = pair_refused 5
 pair_step (jack_line terminal tone) w = pair_refused 5
-pair_step (deviate_line domain ppm) w = pair_unless (is_number 1 domain) 6 (pair_silently (record w { deviation = ppm }))
+pair_step (deviate_line domain ppm) w = pair_unless (is_at domain 1) 6 (pair_silently (record w { deviation = ppm }))
 pair_step (microframes_line count marks) w = pair_unless (list_all is_of_pair marks) 6 (pair_microframes (losses_of marks) (natural count) w)
 pair_step (detail_line level) w = pair_silently (record w { detail = natural level })
 pair_step report_line w = pair_done w (pair_report w)

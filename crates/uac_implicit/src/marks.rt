@@ -1,10 +1,10 @@
 // Which packets are lost.
-ghost use Rattle.std.specs.Prelude.{◌≡◌, ◌==◌, map};
-ghost use Rattle.std.specs.List.{list_all, list_any};
+ghost use Rattle.std.specs.Prelude.{◌≡◌, map};
+ghost use Rattle.std.specs.List.{list_all};
 ghost use Rattle.uac_script.specs.Line.{phrase_mark};
 ghost use Rattle.uac_implicit.specs.PairLines as spec;
 
-use uac_script::{Mark, MarkKind};
+use uac_script::{Mark, MarkKind, loses_in, loses_out};
 
 /// The packets that are lost in a microframe: that to the device, and that from it.
 #[derive(Clone, Copy, Debug, PartialEq, Eq)]
@@ -35,39 +35,7 @@ pub(crate) fn losses_of(marks: &[Mark]) -> Losses
     ensures { result ≡ spec.losses_of (map phrase_mark marks.now) }
 {
     Losses {
-        loses_out: loses_out(marks),
-        loses_in: loses_in(marks),
-    }
-}
-
-fn loses_out(marks: &[Mark]) -> bool
-    ensures { result ≡ list_any (λ mark. spec.marks_out mark.kind) (map phrase_mark marks.now) }
-{
-    marks.iter().any(|mark| is_out(mark.kind))
-}
-
-fn loses_in(marks: &[Mark]) -> bool
-    ensures { result ≡ list_any (λ mark. spec.marks_in mark.kind) (map phrase_mark marks.now) }
-{
-    marks.iter().any(|mark| is_in(mark.kind))
-}
-
-fn is_out(kind: MarkKind) -> bool
-    ensures { result ≡ spec.marks_out kind }
-{
-    match kind {
-        MarkKind::Out => true,
-        MarkKind::In => false,
-        MarkKind::Feedback => false,
-    }
-}
-
-fn is_in(kind: MarkKind) -> bool
-    ensures { result ≡ spec.marks_in kind }
-{
-    match kind {
-        MarkKind::Out => false,
-        MarkKind::In => true,
-        MarkKind::Feedback => false,
+        loses_out: loses_out(marks, 1),
+        loses_in: loses_in(marks, 2),
     }
 }

@@ -7,16 +7,15 @@ ghost use Rattle.uac_bench.specs.BenchKept.{BenchStreamStands};
 ghost use Rattle.uac_implicit.specs.Following.{PairWorld, sent_in, sent_out, at_ticks, tick, ticks, step_next, ticks_next, ended, microframe};
 ghost use Rattle.uac_implicit.specs.Following.{microframes};
 ghost use Rattle.uac_implicit.specs.Following.{in_lines, level_lines, microframe_lines, microframes_lines, out_lines, packet_lines, tick_lines};
-ghost use Rattle.uac_implicit.specs.Following.{ticks_lines, time_lines};
+ghost use Rattle.uac_implicit.specs.Following.{ticks_lines, numbered_lines};
 ghost use Rattle.uac_implicit.specs.PairKept.{IsShort, KeepsSettings, PairRunStands, PairStandsIn, PairTells};
 
 use crate::marks::Losses;
 use crate::pair::PairRun;
-use crate::printing::{write_fetched, write_sent, write_ticked};
-use uac_bench::BenchStream;
+use crate::printing::write_fetched;
+use uac_bench::{BenchStream, write_level_at, write_number, write_packet, write_tick};
 use uac_edges::{Failed, Sink};
 use uac_ring::RING_FRAMES;
-use uac_transcript::{write_level, write_time};
 
 impl PairRun {
     /// Runs so many microframes, printed as they come; in each of them these packets are lost.
@@ -61,13 +60,10 @@ impl PairRun {
     /// Prints the number of the microframe from detail 2 on.
     fn write_number<K: Sink>(&self, sink: &mut K) -> Result<(), Failed>
         ensures printed { (w : PairWorld) → PairRunStands self.now w
-            → Prints (K.written sink.old) (K.written sink.new) result (time_lines w) }
+            → Prints (K.written sink.old) (K.written sink.new) result (numbered_lines w) }
         ensures cause { HasCause (K.faults sink.old) (K.faults sink.new) result }
     {
-        if self.detail < 2 {
-            return Ok(());
-        }
-        write_time(sink, self.time.saturating_add(1))
+        write_number(sink, self.detail, self.time.saturating_add(1))
     }
 
     /// The packets of a microframe: that to the device, and that from it.
@@ -93,7 +89,7 @@ impl PairRun {
     {
         let frames = self.follower.next();
         let arrival = self.out.receive(frames, lost, RING_FRAMES);
-        write_sent(sink, self.detail, frames, arrival)
+        write_packet(sink, self.detail, frames, arrival)
     }
 
     /// The packet from the device, which has all frames that wait. One that comes is heard, but for the first, which has none.
@@ -177,7 +173,7 @@ impl PairRun {
         let ticked = self.out.tick();
         // The ring was emptied in this microframe, so there is room.
         let _ = self.waiting.put(&ticked.frame);
-        write_ticked(sink, self.detail, &ticked)
+        write_tick(sink, self.detail, &ticked)
     }
 
     /// The end of a microframe: zeros in place of a lost packet to the device, for which there is room, and the priming. `before` is the
@@ -198,10 +194,7 @@ impl PairRun {
             → Prints (K.written sink.old) (K.written sink.new) result (level_lines w) }
         ensures cause { HasCause (K.faults sink.old) (K.faults sink.new) result }
     {
-        if self.detail < 2 {
-            return Ok(());
-        }
-        write_level(sink, 1, self.out.level(), self.out.target())
+        write_level_at(sink, self.detail, self.out.level(), self.out.target())
     }
 }
 

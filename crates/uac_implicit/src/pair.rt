@@ -99,6 +99,7 @@ impl Pair {
     }
 
     /// Does one line and prints its text.
+    /// It is for other callers: the program's lines are done by `lent_line`.
     ///
     /// # Errors
     ///

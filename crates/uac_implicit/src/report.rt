@@ -11,7 +11,7 @@ use crate::pair::PairRun;
 use uac_clock::Nominal;
 use uac_edges::{Failed, Sink, TextLine, give_all};
 use uac_ring::StreamCounts;
-use uac_transcript::{write_domain, write_passed};
+use uac_transcript::{push_stream, write_domain, write_time};
 
 impl PairRun {
     /// Prints the report.
@@ -20,7 +20,7 @@ impl PairRun {
             → Writes (K.written sink.old) (K.written sink.new) result (pair_text (pair_report w)) }
         ensures cause { HasCause (K.faults sink.old) (K.faults sink.new) result }
     {
-        match write_passed(sink, self.time) {
+        match write_time(sink, self.time) {
             Ok(()) => {}
             Err(failed) => return Err(failed),
         }
@@ -63,19 +63,8 @@ fn out_text(level: u32, target: Option<u32>, met: StreamCounts) -> TextLine<256>
     ensures { result ≡ pair_spelling (says_pair_out level target met) }
 {
     let mut text = TextLine::new();
-    text.push(b"stream 1 out level ");
-    text.push_number(u64::from(level));
-    text.push(b" target ");
-    match target {
-        Some(target) => text.push_number(u64::from(target)),
-        None => text.push_byte(b'-'),
-    }
-    text.push(b" under ");
-    text.push_number(met.under);
-    text.push(b" over ");
-    text.push_number(met.over);
-    text.push(b" lost ");
-    text.push_number(met.lost);
+    text.push(b"stream 1 out");
+    push_stream(&mut text, level, target, met);
     text.push_byte(b'\n');
     text
 }

@@ -1,1 +1,4 @@
 pub mod BlockLinesLemmas
+pub mod AnsweredLemmas
+pub mod OutcomeLemmas
+pub mod SourceParsingLemmas

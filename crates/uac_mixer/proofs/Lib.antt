@@ -12,3 +12,4 @@ pub mod ViewLinksReadLemmas
 pub mod MixerElementsKeyLemmas
 mod Worked
 pub mod ReadingLemmas
+pub mod UnchangedLemmas

@@ -1,13 +1,15 @@
 -- What the host knows of a device is so: each known value is the device's.
-use Rattle.std.specs.Prelude.{◌≡◌, ℕ, ◌≤◌, Bool, true, ℤ, List, Option, Some, None, IfSome}
+use Rattle.std.specs.Prelude.{◌≡◌, ℕ, ◌≤◌, Bool, true, false, ℤ, List, Option, Some, None, IfSome}
 use Rattle.std.specs.List.{All}
 use Rattle.uac_store.specs.declared.keys.Key.{Key}
 use Rattle.uac_store.specs.StoreControls.{IsStoreOf, initial_controls}
 use Rattle.uac_store.specs.Keyed.{value_of}
 use Rattle.uac_topology.specs.Function.{FunctionFields}
 use Rattle.uac_topology.specs.Topology.{IsSoundFunction}
-use Rattle.uac_request.specs.Requests.{RequestState, AnswerFields, after_request, reply_of}
+use Rattle.uac_request.specs.Requests.{RequestState, AnswerFields, after_request, is_done_answer, reply_of}
 use Rattle.uac_request.specs.declared.setup.Setup.{Setup}
+use Rattle.uac_device.specs.DeviceWorld.{DeviceWorld}
+use Rattle.uac_device.specs.DeviceKept.{DeviceFields, DeviceStands, IsControlled}
 use Rattle.uac_mixer.specs.declared.element.Element.{Element}
 use Rattle.uac_mixer.specs.MixerElements.{element_list}
 use Rattle.uac_mixer.specs.ViewLinks.{AreAsked, IsAsBefore, IsTransferred, LinkFields}
@@ -41,6 +43,12 @@ abbrev pub KnownValuesStay : Type 0
 KnownValuesStay = (function : FunctionFields) (held : RequestState) (p : Setup) (sent : List ℕ) (view : ViewWorld)
     → IsSoundFunction function → IsStoreOf function.entities held.controls → IsViewOf function.entities view → IsAgreed held.controls view
     → StaysAgreed function held p sent view
+
+-- what isn't a SET that is done leaves all of the device as it was: what it is, holds and is set to, and each world for which it stood,
+-- streams, rings and clocks included
+abbrev pub OnlySetsChangeTheDevice : Type 0
+OnlySetsChangeTheDevice = (p : Setup) (sent : List ℕ) (told : AnswerFields) (old new : DeviceFields) (w : DeviceWorld)
+    → IsControlled p sent told old new → is_done_answer told ≡ false → DeviceStands old w → IsAsBefore old new × DeviceStands new w
 
 -- ---- what a view's calls do
 

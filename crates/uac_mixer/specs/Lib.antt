@@ -3,8 +3,8 @@
 pub mod MixerElements
 pub mod ViewWorld
 pub mod ViewTransfers
--- What the laws say besides.
 pub mod Agreement
--- What the contracts below them cite: steps of the code, no part of what is promised.
+-- What the laws say besides.
 pub mod ViewLinks
+-- What the contracts below them cite: steps of the code, no part of what is promised.
 pub mod Readable

@@ -1,5 +1,6 @@
 -- A link between the host and a device, over which transfers may break (profile).
-use Rattle.std.specs.Prelude.{◌≡◌, ◌↔◌, ℕ, ◌<◌, ◌≤◌, List, [], ◌∷◌, Option, Some, None, IsSome}
+use Rattle.std.specs.Prelude.{◌≡◌, ◌↔◌, ℕ, ◌<◌, ◌≤◌, ◌+◌, List, [], ◌∷◌, Option, Some, None, IsSome}
+use Rattle.uac_pcm.specs.Counts.{at_most_u64}
 use Rattle.uac_request.specs.Requests.{AnswerFields}
 use Rattle.uac_request.specs.declared.setup.Setup.{Setup}
 use Rattle.uac_device.specs.DeviceWorld.{BegunFields, begun_by}
@@ -16,7 +17,8 @@ pub record LinkFields : Type 0 where
   -- the last answer that the device gave through this link, if any, and what that request began
   pub last : Option AnswerFields
   pub began : Option BegunFields
-  -- how many transfers broke so far
+  -- how many transfers were begun so far, and how many broke
+  pub transfers : ℕ
   pub breaks : ℕ
   -- the fault of the next transfer, where the link tells it: none, or when it breaks
   pub fault : Option (Option When)
@@ -52,6 +54,7 @@ pub record BreaksAsFaultSays (fault : Option When) (p : Setup) (sent : List ℕ)
 
 -- one transfer through a link
 pub record IsTransferred (p : Setup) (sent : List ℕ) (came : Option AnswerFields) (old new : LinkFields) : Type 0 where
+  pub counted : new.transfers ≡ at_most_u64 (old.transfers + 1)
   pub never_falls : old.breaks ≤ new.breaks
   pub answered : IsAnswered p sent came old new
   pub told : (fault : Option When) → old.fault ≡ Some fault → BreaksAsFaultSays fault p sent came old new

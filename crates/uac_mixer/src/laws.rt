@@ -1,5 +1,5 @@
 // What holds of views and of the devices that they are of.
-ghost use Rattle.uac_mixer.specs.Agreement.{ControlsStart, ControlsStay, KnownValuesStay};
+ghost use Rattle.uac_mixer.specs.Agreement.{ControlsStart, ControlsStay, KnownValuesStay, OnlySetsChangeTheDevice};
 
 use uac_store::laws::sound_functions_have_keys_and_rates;
 use uac_topology::laws::entities_have_pins;
@@ -22,4 +22,9 @@ pub fn controls_keep_values()
 /// What a view knows of a device stays so, whatever came back of a transfer.
 pub fn known_values_stay()
     ensures { KnownValuesStay }
+{}
+
+/// What isn't a SET that is done leaves all of a device as it was: its controls and settings, its streams, their rings, and its clocks.
+pub fn only_sets_change_the_device()
+    ensures { OnlySetsChangeTheDevice }
 {}

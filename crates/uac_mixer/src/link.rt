@@ -19,7 +19,8 @@ pub enum When {
 }
 
 /// A way to a device, on which transfers may break. It has the device at its end, the last answer that the device gave
-/// through it, a count of breaks that never falls and, where it tells it, the fault of its next transfer.
+/// through it, a count of its transfers, a count of breaks that never falls and, where it tells it, the fault of its next
+/// transfer.
 pub trait Link {
     ghost use Rattle.std.specs.Prelude.{◌≡◌};
     ghost use base.Fml.{GName};
@@ -37,7 +38,7 @@ pub trait Link {
         ensures function { result.now ≡ (state self.now).device.function }
         ensures stored { IsStoreOf (state self.now).device.function.entities (state self.now).device.controls };
 
-    /// One transfer. `Broken` comes only where the count of breaks rose, and then the device and the last answer are those
+    /// One transfer, and no second one. `Broken` comes only where the count of breaks rose, and then the device and the last answer are those
     /// before the transfer, or those that the device's answer leaves. Else the device answered this, and the last answer is
     /// this one. Where the fault is told, the transfer breaks exactly by that, and after it the fault told is none.
     fn control(&mut self, setup: &Setup, sent: &[u8]) -> Result<Answer, Broken>
@@ -51,6 +52,7 @@ pub struct DeviceLink<'a> {
     device: &'a mut Device,
     last: Option<Answer>,
     began: Option<Begun>,
+    transfers: u64,
     fault: Option<When>,
     ghost stored: { IsStoreOf device.now.function.entities device.now.controls },
 }
@@ -68,6 +70,7 @@ impl<'a> DeviceLink<'a> {
         ensures device { result.device.now ≡ device.old }
         ensures last { result.last ≡ None }
         ensures began { result.began ≡ None }
+        ensures transfers { result.transfers ≡ 0 }
         ensures fault { result.fault ≡ fault }
     {
         controls_are_stored(device);
@@ -75,11 +78,13 @@ impl<'a> DeviceLink<'a> {
             device,
             last: None,
             began: None,
+            transfers: 0,
             fault,
         }
     }
 
     /// The last answer; None exactly where no transfer through this link reached the device.
+    /// Tests alone call it.
     pub fn last(&self) -> Option<&Answer>
         ensures { option_map (λ answer. answer_fields answer.now) result ≡ option_map answer_fields self.now.last }
     {
@@ -101,6 +106,7 @@ impl<'a> DeviceLink<'a> {
         ensures last { option_map answer_fields self.new.last ≡ Some (answer_fields result) }
         ensures began { option_map begun_fields self.new.began
             ≡ begun_by self.old.device.now.function self.old.device.now.controls setup.now (answer_fields result) }
+        ensures transfers { self.new.transfers ≡ self.old.transfers }
         ensures fault { self.new.fault ≡ self.old.fault }
     {
         let acted = self.device.act(setup, sent);
@@ -121,6 +127,7 @@ impl<'a> Link for DeviceLink<'a> {
       device = l.device.now;
       last = option_map answer_fields l.last;
       began = option_map begun_fields l.began;
+      transfers = l.transfers;
       breaks = if is_some l.fault then 0 else 1;
       fault = Some l.fault;
     } };
@@ -132,6 +139,7 @@ impl<'a> Link for DeviceLink<'a> {
     }
 
     fn control(&mut self, setup: &Setup, sent: &[u8]) -> Result<Answer, Broken> {
+        self.transfers = self.transfers.saturating_add(1);
         match self.fault.take() {
             None => Ok(self.act(setup, sent)),
             Some(When::Before) => Err(Broken),

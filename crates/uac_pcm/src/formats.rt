@@ -26,6 +26,7 @@ pub struct Format {
 
 impl Format {
     /// The format of these numbers; None exactly where one of them is out of its range.
+    /// Tests alone call it.
     pub fn new(channels: u8, subslot: u8, bits: u8) -> Option<Format>
         ensures in_range { IsSome result ↔ IsFormat channels subslot bits }
         ensures fields { IfSome result (λ format. (format.channels ≡ channels) × (format.subslot ≡ subslot) × (format.bits ≡ bits)) }
@@ -50,6 +51,7 @@ impl Format {
     }
 
     /// Appends the frame's bytes to the packet; false exactly where they do not fit, and then the packet stays as it was.
+    /// Tests alone call it.
     pub fn pack(&self, frame: &Frame, packet: &mut Packet) -> bool
         requires { array_vec_len frame.now ≡ self.now.channels }
         ensures fits { IsTrue result ↔ (array_vec_len packet.old + self.now.channels * self.now.subslot ≤ 3072) }

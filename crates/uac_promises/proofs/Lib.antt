@@ -1,8 +1,62 @@
+-- Steady scripts: line by line.
+pub mod ScriptsEarlierLemmas
+pub mod ScriptsLineLemmas
+pub mod ScriptsStartLemmas
+pub mod ScriptsLemmas
 -- Promises of every printed line: line by line, and microframe by microframe.
 pub mod WatchesLemmas
 pub mod PromisesPlainLemmas
 pub mod PromisesRunLemmas
 pub mod PromisesLineLemmas
 pub mod PromisesStartLemmas
+pub mod RingCountsLemmas
+pub mod RingCountsLineLemmas
+pub mod ReportLemmas
+pub mod MomentsLemmas
+pub mod MomentLawsLemmas
+pub mod MomentsRingLemmas
+pub mod MomentsOutLemmas
+pub mod MomentsInLemmas
+pub mod PromisesMoreLemmas
 pub mod PromisesRowLemmas
 pub mod PromisesLemmas
+pub mod PromisesBegunLemmas
+pub mod PrintedTextLemmas
+pub mod WorkedMoments
+-- What the host knows: the worlds in which it is so, and line by line. What a run counts: event by event, and line by line.
+-- What comes out of packets: that samples stay samples, event by event, and line by line.
+pub mod BelievedWorldLemmas
+pub mod BelievedMicroframeLemmas
+pub mod BelievedTransferLemmas
+pub mod BelievedStartLemmas
+pub mod BelievedLemmas
+pub mod UnknownTransferLemmas
+pub mod UnknownLemmas
+pub mod UnknownLostLemmas
+pub mod CountsEventLemmas
+pub mod CountsLemmas
+pub mod CutGraphLemmas
+pub mod CutPacketsLemmas
+pub mod CutEventLemmas
+pub mod CutTurnLemmas
+pub mod CutMicroframeLemmas
+pub mod CutCallLemmas
+pub mod CutLinesLemmas
+pub mod ValidSettingsLemmas
+pub mod Worked
+-- Generated scripts: their descriptors, their lines, and the run.
+pub mod ListRangeLemmas
+pub mod GrammarLemmas
+pub mod CyclesLemmas
+pub mod RulesClockLemmas
+pub mod DescriptorFunctionLemmas
+pub mod PhraseLemmas
+pub mod GeneratorLineLemmas
+pub mod SteadinessLemmas
+pub mod SteadinessBeatLemmas
+pub mod GeneratedBeatLemmas
+pub mod GeneratedStreamLemmas
+pub mod BusWorldLineLemmas
+pub mod GeneratedDescriptorLemmas
+pub mod DescriptorStreamLemmas
+pub mod GeneratedLemmas

@@ -1,8 +1,8 @@
 -- Every steady script keeps its promises, by what single microframes, transfers and calls keep.
-use Rattle.uac_overflow.proofs.RecordingLemmas.{microframes_stay_recorded}
-use Rattle.uac_overflow.proofs.RecordingTransferLemmas.{calls_stay_recorded, runs_start_recorded, transfers_stay_recorded}
-use Rattle.uac_homing.proofs.HomingLemmas.{calls_stay_trailed, microframes_stay_trailed, runs_start_trailed}
-use Rattle.uac_homing.proofs.HomingTransferLemmas.{transfers_stay_trailed}
+use Rattle.uac_levels.proofs.RecordingLemmas.{microframes_stay_recorded}
+use Rattle.uac_levels.proofs.RecordingTransferLemmas.{calls_stay_recorded, runs_start_recorded, transfers_stay_recorded}
+use Rattle.uac_levels.proofs.HomingLemmas.{calls_stay_trailed, microframes_stay_trailed, runs_start_trailed}
+use Rattle.uac_levels.proofs.HomingTransferLemmas.{transfers_stay_trailed}
 use Rattle.uac_promises.specs.Promises.{SteadyScriptsKeepPromises}
 use Rattle.uac_promises.proofs.PromisesRunLemmas.{LawsOfSteps}
 use Rattle.uac_promises.proofs.PromisesRowLemmas.{steady_scripts_keep_promises}

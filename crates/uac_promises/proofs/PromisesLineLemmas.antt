@@ -16,14 +16,14 @@ use Rattle.uac_running.specs.RunningLines.{report_lines}
 use Rattle.uac_running.specs.RunningTransfers.{element_named, read_element, set_element, show_element, transfer, after_transfer, with_break}
 use Rattle.uac_fault.specs.declared.fault.BusFault.{BusFault}
 use Rattle.uac_rows.specs.BusWorld.{Step, BusWorld, done, refused, running, step_running, step_telling, tone_of}
-use Rattle.uac_bands.proofs.BeginningsLemmas.{calls_keep_bands}
-use Rattle.uac_bands.proofs.BandRunEarlierLemmas.{calls_look_back}
-use Rattle.uac_bands.proofs.BandTransfersBandLemmas.{transfers_keep_bands}
-use Rattle.uac_bands.proofs.BandTransfersRunLemmas.{calls_keep_sound}
-use Rattle.uac_bands.proofs.BandTransfersLemmas.{transfers_keep_sound}
-use Rattle.uac_homing.specs.Past.{Pasts}
-use Rattle.uac_steady.specs.Scripts.{is_steady_in}
-use Rattle.uac_steady.proofs.ScriptsEarlierLemmas.{appended, framed, gone_on, off, on_element_is, reads, set_to, shown, toned, tracked, unless_is}
+use Rattle.uac_levels.proofs.BeginningsLemmas.{calls_keep_bands}
+use Rattle.uac_levels.proofs.BandRunEarlierLemmas.{calls_look_back}
+use Rattle.uac_levels.proofs.BandTransfersBandLemmas.{transfers_keep_bands}
+use Rattle.uac_levels.proofs.BandTransfersRunLemmas.{calls_keep_sound}
+use Rattle.uac_levels.proofs.BandTransfersLemmas.{transfers_keep_sound}
+use Rattle.uac_levels.specs.Past.{Pasts}
+use Rattle.uac_promises.specs.Scripts.{is_steady_in}
+use Rattle.uac_promises.proofs.ScriptsEarlierLemmas.{appended, framed, gone_on, off, on_element_is, reads, set_to, shown, toned, tracked, unless_is}
 use Rattle.uac_promises.specs.Watches.{Microframes, line_watches, microframes_of}
 use Rattle.uac_promises.proofs.PromisesPlainLemmas.{IsPlain, one_plain, plain_lines_kept, report_plain}
 use Rattle.uac_promises.proofs.PromisesRunLemmas.{IsGoodIn, IsGoodRun, LawsOfSteps, LeavesKept, microframes_keep}

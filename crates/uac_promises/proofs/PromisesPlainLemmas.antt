@@ -5,14 +5,14 @@ use Rattle.std.proofs.lemmas.Bool.{true≢false}
 use Rattle.std.proofs.lemmas.List.Elements.{All-append, All-cons, All-map, All-nil, All-weaker}
 use Rattle.uac_entities.specs.declared.stream.StreamInterface.{StreamInterface}
 use Rattle.uac_device.specs.DeviceWorld.{Domain}
-use Rattle.uac_transcript.specs.Transcript.{Said, says_level, says_meter, says_over, says_passed, says_renders, says_steady, says_under}
+use Rattle.uac_transcript.specs.Transcript.{Said, says_level, says_meter, says_over, says_time, says_renders, says_steady, says_under}
 use Rattle.uac_ring.specs.declared.counts.StreamCounts.{StreamCounts}
 use Rattle.uac_running.specs.RunningWorld.{RunningWorld}
 use Rattle.uac_running.specs.RunningWorld as world
 use Rattle.uac_running.specs.RunningLines.{report_lines}
-use Rattle.uac_report.specs.ReportLines.{domain_line, says_stream, stream_line}
+use Rattle.uac_running.specs.ReportLines.{domain_line, says_stream, stream_line}
 use Rattle.uac_rows.specs.BusWorld.{BusWorld, describing, running}
-use Rattle.uac_homing.specs.Past.{Pasts}
+use Rattle.uac_levels.specs.Past.{Pasts}
 use Rattle.uac_promises.specs.Watches.{watch_in}
 use Rattle.uac_promises.specs.Promises.{IsCloseIn, IsKeptPromise}
 
@@ -32,7 +32,7 @@ not_plain said other plain isnt same = true≢false (sym plain ∙ (ap is_plain 
 
 plain_close : (w : BusWorld) (pasts : Pasts) (said : Said) → IsPlain said → IsCloseIn w pasts said
 plain_close (describing bytes meters) pasts said plain = tt
-plain_close (running r) pasts said plain = λ interface level target o same out. absurd (not_plain said _ plain refl same)
+plain_close (running r) pasts said plain = λ interface level target same. absurd (not_plain said _ plain refl same)
 
 plain_kept : (w : BusWorld) (pasts : Pasts) (said : Said) → IsPlain said → IsKeptPromise (watch_in w pasts said)
 plain_kept w pasts said plain = record {
@@ -86,5 +86,5 @@ report_plain r =
     (mapped_plain (domain_line r.device) (domain_plain r) r.device.domains) streamed
     in
     let steady : Said = says_steady (world.is_steady r) in
-    All-cons IsPlain (says_passed r.time) (steady ∷ domains ++ (streams ++ (meters ++ last))) refl
+    All-cons IsPlain (says_time r.time) (steady ∷ domains ++ (streams ++ (meters ++ last))) refl
     (All-cons IsPlain steady (domains ++ (streams ++ (meters ++ last))) refl clocked)

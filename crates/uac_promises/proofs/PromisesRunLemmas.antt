@@ -9,16 +9,16 @@ use Rattle.uac_script.specs.Phrase.{PhraseMark}
 use Rattle.uac_running.specs.RunningWorld.{RunningWorld}
 use Rattle.uac_running.specs.Events.{microframe, microframes}
 use Rattle.uac_rows.specs.BusWorld.{BusWorld, describing, running}
-use Rattle.uac_bands.specs.BandRun.{RunInBand}
-use Rattle.uac_bands.specs.BandTransfers.{IsSoundRun}
-use Rattle.uac_bands.proofs.BandRunLevelLemmas.{tell_near}
-use Rattle.uac_bands.proofs.BandRunEmptyLemmas.{find_none_empty}
-use Rattle.uac_bands.proofs.BandTransfersRunLemmas.{microframes_keep_sound}
-use Rattle.uac_bands.proofs.BandRunLemmas.{keep_bands}
-use Rattle.uac_overflow.specs.Recording.{AreRecorded, CallsStayRecorded, MicroframesStayRecorded, RunsStartRecorded, TransfersStayRecorded}
-use Rattle.uac_homing.specs.Past.{Pasts, pasts_after}
-use Rattle.uac_homing.specs.Homing.{CallsStayTrailed, HaveTrails, MicroframesStayTrailed, RunsStartTrailed, TransfersStayTrailed}
-use Rattle.uac_steady.proofs.ScriptsEarlierLemmas.{microframes_before}
+use Rattle.uac_levels.specs.BandRun.{RunInBand}
+use Rattle.uac_levels.specs.BandTransfers.{IsSoundRun}
+use Rattle.uac_levels.proofs.BandRunLevelLemmas.{tell_near}
+use Rattle.uac_levels.proofs.BandRunEmptyLemmas.{find_none_empty}
+use Rattle.uac_levels.proofs.BandTransfersRunLemmas.{microframes_keep_sound}
+use Rattle.uac_levels.proofs.BandRunLemmas.{keep_bands}
+use Rattle.uac_levels.specs.Recording.{AreRecorded, CallsStayRecorded, MicroframesStayRecorded, RunsStartRecorded, TransfersStayRecorded}
+use Rattle.uac_levels.specs.Past.{Pasts, pasts_after}
+use Rattle.uac_levels.specs.Homing.{CallsStayTrailed, HaveTrails, MicroframesStayTrailed, RunsStartTrailed, TransfersStayTrailed}
+use Rattle.uac_promises.proofs.ScriptsEarlierLemmas.{microframes_before}
 use Rattle.uac_promises.specs.Watches.{Watches, microframe_watches, watch_in}
 use Rattle.uac_promises.specs.Promises.{IsKeptPromise}
 
@@ -59,7 +59,7 @@ module _ (laws : LawsOfSteps) where
     pasts = pasts_after marks r pasts;
   }
 
-  microframe_keeps : (marks : List PhraseMark) (r : RunningWorld) (pasts : Pasts) → IsGoodRun r pasts
+  pub microframe_keeps : (marks : List PhraseMark) (r : RunningWorld) (pasts : Pasts) → IsGoodRun r pasts
       → is_steady (microframe marks r).world.history ≡ true
       → LeavesKept (running (microframe marks r).world) (microframe_seen marks r pasts)
   microframe_keeps marks r pasts good steady =

@@ -7,10 +7,10 @@ use Rattle.uac_units.specs.Hearing.{Reading}
 use Rattle.uac_running.specs.RunningWorld.{at_start}
 use Rattle.uac_running.specs.RunningLines.{ready_line}
 use Rattle.uac_rows.specs.BusWorld.{BusWorld, describing, running, step_describing}
-use Rattle.uac_bands.proofs.BeginningsLemmas.{runs_start_in_band}
-use Rattle.uac_bands.proofs.BandTransfersStartLemmas.{runs_start_sound}
-use Rattle.uac_homing.specs.Past.{Pasts}
-use Rattle.uac_steady.proofs.ScriptsStartLemmas.{describing_is}
+use Rattle.uac_levels.proofs.BeginningsLemmas.{runs_start_in_band}
+use Rattle.uac_levels.proofs.BandTransfersStartLemmas.{runs_start_sound}
+use Rattle.uac_levels.specs.Past.{Pasts}
+use Rattle.uac_promises.proofs.ScriptsStartLemmas.{describing_is}
 use Rattle.uac_promises.specs.Watches.{microframes_of}
 use Rattle.uac_promises.proofs.PromisesPlainLemmas.{IsPlain, one_plain}
 use Rattle.uac_promises.proofs.PromisesRunLemmas.{LawsOfSteps}

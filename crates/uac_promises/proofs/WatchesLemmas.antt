@@ -1,6 +1,6 @@
 -- The lines that are seen are those that are printed.
-use Rattle.std.proofs.Common.{◌≡◌, refl, ap, ℕ, zero, suc, List, [], ◌∷◌, ◌++◌, map, Option, None, Some, Ok, Err}
-use Rattle.std.proofs.lemmas.List.{map-append}
+use Rattle.std.proofs.Common.{◌≡◌, ◌∙◌, refl, sym, ap, subst, append_assoc, Result, ℕ, zero, suc, List, [], ◌∷◌, ◌++◌, map, Option, None, Some, Ok, Err}
+use Rattle.std.proofs.lemmas.List.{append-nil, map-append}
 use Rattle.uac_script.specs.Phrase.{PhraseMark, Phrase, microframes_line}
 use Rattle.uac_units.specs.Hearing.{Reading}
 use Rattle.uac_transcript.specs.Transcript.{Said}
@@ -8,9 +8,9 @@ use Rattle.uac_running.specs.RunningWorld.{RunningWorld}
 use Rattle.uac_running.specs.RunningNames.{natural_of_int}
 use Rattle.uac_running.specs.Events.{microframe, microframes}
 use Rattle.uac_rows.specs.BusWorld.{Step, BusWorld, describing, done, refused, running, step, step_describing, step_running}
-use Rattle.uac_bus.specs.After.{after, and_then}
-use Rattle.uac_homing.specs.Past.{Pasts, pasts_after}
-use Rattle.uac_steady.proofs.ScriptsEarlierLemmas.{gone_on, unless_is}
+use Rattle.uac_rows.specs.After.{after, and_then}
+use Rattle.uac_levels.specs.Past.{Pasts, pasts_after}
+use Rattle.uac_promises.proofs.ScriptsEarlierLemmas.{gone_on, unless_is}
 use Rattle.uac_promises.specs.Watches.{Microframes, Watch, and_then_watches, line_watches, microframes_of, microframe_watches, watches_after, watch_in}
 use Rattle.uac_promises.specs.Promises.{LinesAreSeen}
 
@@ -40,7 +40,7 @@ microframes_are_seen marks (suc count) r pasts =
     (each_seen (running next) later (microframe marks r).lines) (microframes_are_seen marks count next later)
 
 -- what is seen of a line that was done is what it printed
-abbrev IsSeen : Option Microframes → BusWorld → Pasts → Step → Type 0
+abbrev pub IsSeen : Option Microframes → BusWorld → Pasts → Step → Type 0
 IsSeen m w pasts (done next lines) = map said_in (line_watches m w next lines pasts).lines ≡ lines
 IsSeen m w pasts (refused fault) = Unit {0}
 
@@ -64,7 +64,7 @@ line_of_running (microframes_line count marks) r pasts =
     (microframes_are_seen marks (natural_of_int count) r pasts)
 line_of_running phrase r pasts = whole_line (running r) pasts (step_running r phrase)
 
-line_is_seen : (phrase : Phrase) (w : BusWorld) (pasts : Pasts) → IsSeen (microframes_of phrase) w pasts (step phrase w)
+pub line_is_seen : (phrase : Phrase) (w : BusWorld) (pasts : Pasts) → IsSeen (microframes_of phrase) w pasts (step phrase w)
 unfolding step
 line_is_seen phrase (describing bytes meters) pasts =
     line_of_describing (microframes_of phrase) bytes meters pasts (step_describing bytes meters phrase)
@@ -85,3 +85,44 @@ lines_are_seen (Ok phrase ∷ saids) w pasts = by (step phrase w) (line_is_seen 
         both_seen seen.lines (watches_after saids next seen.pasts).lines lines (after saids next).lines first (rest next seen.pasts)
     by (refused fault) first rest = refl
 lines_are_seen (Err rule ∷ saids) w pasts = refl
+
+-- ---- one line more
+
+pub watches_one_more : (saids : List (Result Phrase ℕ)) (phrase : Phrase) (w : BusWorld) (pasts : Pasts) (next : BusWorld) (lines : List Said)
+    → (after saids w).refusal ≡ None → step phrase (after saids w).world ≡ done next lines
+    → (watches_after (saids ++ Ok phrase ∷ []) w pasts).lines
+    ≡ (watches_after saids w pasts).lines ++ (line_watches (microframes_of phrase) (after saids w).world next lines (watches_after saids w pasts).pasts).lines
+unfolding watches_after after
+watches_one_more [] phrase w pasts next lines whole does = by (step phrase w) does
+  where
+    by : (s : Step) → s ≡ done next lines
+        → (and_then_watches s (microframes_of phrase) w pasts (watches_after [])).lines ≡ (line_watches (microframes_of phrase) w next lines pasts).lines
+    by (done next' lines') is =
+        append-nil (line_watches (microframes_of phrase) w next' lines' pasts).lines
+        ∙ ap (λ (s : Step). lines_of s) is
+      where
+        lines_of : Step → List Watch
+        lines_of (done n ls) = (line_watches (microframes_of phrase) w n ls pasts).lines
+        lines_of (refused fault) = []
+    by (refused fault) is = absurd (cc is)
+watches_one_more (Ok first ∷ saids) phrase w pasts next lines whole does = by (step first w) whole does (watches_one_more saids phrase)
+  where
+    by : (s : Step) → (and_then s w (after saids)).refusal ≡ None → step phrase (and_then s w (after saids)).world ≡ done next lines
+        → ((v : BusWorld) (later : Pasts) (n : BusWorld) (ls : List Said) → (after saids v).refusal ≡ None → step phrase (after saids v).world ≡ done n ls
+        → (watches_after (saids ++ Ok phrase ∷ []) v later).lines
+        ≡ (watches_after saids v later).lines ++ (line_watches (microframes_of phrase) (after saids v).world n ls (watches_after saids v later).pasts).lines)
+        → (and_then_watches s (microframes_of first) w pasts (watches_after (saids ++ Ok phrase ∷ []))).lines
+        ≡ (and_then_watches s (microframes_of first) w pasts (watches_after saids)).lines
+        ++ (line_watches (microframes_of phrase) (and_then s w (after saids)).world next lines
+        (and_then_watches s (microframes_of first) w pasts (watches_after saids)).pasts).lines
+    by (done v printed) none is rest =
+        let seen = line_watches (microframes_of first) w v printed pasts in
+        ap (λ (ws : List Watch). seen.lines ++ ws) (rest v seen.pasts next lines none is)
+        ∙ sym (append_assoc seen.lines (watches_after saids v seen.pasts).lines
+        (line_watches (microframes_of phrase) (after saids v).world next lines (watches_after saids v seen.pasts).pasts).lines)
+    by (refused fault) none is rest = absurd (cc none)
+watches_one_more (Err rule ∷ saids) phrase w pasts next lines whole does = absurd (cc whole)
+
+pub line_is_seen_so : (phrase : Phrase) (w : BusWorld) (pasts : Pasts) (next : BusWorld) (lines : List Said) → step phrase w ≡ done next lines
+    → map said_in (line_watches (microframes_of phrase) w next lines pasts).lines ≡ lines
+line_is_seen_so phrase w pasts next lines does = subst (IsSeen (microframes_of phrase) w pasts) does (line_is_seen phrase w pasts)

@@ -9,7 +9,7 @@ use Rattle.uac_running.specs.RunningWorld.{RunningWorld}
 use Rattle.uac_running.specs.RunningNames.{natural_of_int}
 use Rattle.uac_running.specs.Events.{microframe}
 use Rattle.uac_rows.specs.BusWorld.{Step, BusWorld, describing, done, refused, running, step}
-use Rattle.uac_homing.specs.Past.{Pasts, pasts_after}
+use Rattle.uac_levels.specs.Past.{Pasts, pasts_after}
 
 -- a printed line, the world after the microframe or the line of the script that printed it, and the pasts of its streams there
 pub record Watch : Type 0 where

@@ -1,4 +1,4 @@
-// Laws of levels, each the contract of a function that does nothing. They speak of numbers alone: nothing ties them to a run yet.
+// Laws of levels, each the contract of a function that does nothing. They speak of numbers alone: uac_levels ties them to a run.
 ghost use Rattle.uac_rate.specs.LevelLaws.{RatesHaveBands, PacketsAddUp, PacketsFollowRemainders, SteadyClocksAreSlight, SlightStepsAddUp};
 ghost use Rattle.uac_rate.specs.LevelLaws.{PacketsAreWhole, TicksAreWhole, ReportsFallDue, IntervalsKeepRobust, ReportsKeepRobust};
 ghost use Rattle.uac_rate.specs.LevelLaws.{FreeFormula, IntervalsKeepTight, ReportsKeepTight, RobustIsNear, TightIsNear};

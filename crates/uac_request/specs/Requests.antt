@@ -7,7 +7,7 @@ use Rattle.std.specs.List.{find, filter_map, list_any}
 use Rattle.std.specs.Option.{option_and_then, option_map, option_map_or}
 use Rattle.std.specs.Ordering.{int_eq}
 use Rattle.byteorder.specs.Endian.{little_bytes, little_number}
-pub use Rattle.uac_sentence.specs.Grammar.{least}
+pub use Rattle.uac_grammar_rules.specs.Grammar.{least}
 use Rattle.uac_entities.specs.EntityInterfaces.{entity_by_id}
 use Rattle.uac_entities.specs.declared.entity.Entity.{Entity}
 use Rattle.uac_entities.specs.declared.entity.EntityKind.{EntityKind}

@@ -3,8 +3,9 @@ ghost use Rattle.std.specs.Prelude.{◌≡◌};
 ghost use Rattle.uac_store.specs.StoreControls.{IsStoreOf};
 ghost use Rattle.uac_request.specs.Requests.{AreSettingsOf, after_request, request_state, reply_of, answer_fields};
 
-use crate::reply::Answer;
+use crate::reply::{Answer, stalled};
 use crate::request::{Request, request_of};
+use crate::rule::RequestRule;
 use crate::serve::{get_cur, get_descriptor, get_interface, get_range, set_cur, set_interface};
 use crate::setup::Setup;
 use uac_alt::Settings;
@@ -39,6 +40,6 @@ pub fn answer(
         Some(Request::GetDescriptor) => get_descriptor(function, setup, sent),
         Some(Request::GetInterface) => get_interface(function, settings, setup, sent),
         Some(Request::SetInterface) => set_interface(function, store, settings, setup, sent),
-        None => Answer::Stall(1),
+        None => stalled(RequestRule::UnknownRequest),
     }
 }

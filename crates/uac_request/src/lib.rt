@@ -18,6 +18,8 @@ mod owner;
 mod ranging;
 /// The requests that there are.
 mod request;
+/// The rules by which a request is stalled, by name.
+mod rule;
 /// The rules that requests to controls break.
 mod rules;
 /// The six requests.

@@ -1,4 +1,9 @@
 // What a request is told.
+ghost use Rattle.std.specs.Prelude.{◌≡◌};
+ghost use Rattle.uac_request.specs.Requests.{answer_fields, is_stalled};
+ghost use Rattle.uac_request.specs.RuleNumbers.{rule_number};
+
+use crate::rule::RequestRule;
 use arrayvec::ArrayVec;
 
 /// The bytes of an answer: at most two, and twelve subranges of three values of four bytes (Audio Class 2.0, 5.2.3.3).
@@ -15,4 +20,11 @@ pub enum Answer {
     Done,
     /// The request is stalled, by the rule with this number.
     Stall(u8),
+}
+
+/// A stall by a rule.
+pub(crate) fn stalled(rule: RequestRule) -> Answer
+    ensures { answer_fields result ≡ is_stalled (rule_number rule) }
+{
+    Answer::Stall(rule.number())
 }

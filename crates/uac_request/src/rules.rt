@@ -3,6 +3,7 @@ ghost use Rattle.std.specs.Prelude.{◌≡◌, ◌≤◌, ◌==◌, IfOk, IfErr,
 ghost use Rattle.std.specs.Prelude.{nat_lt};
 ghost use Rattle.std.specs.Int.{w32};
 ghost use Rattle.std.specs.Int.RustNames.{FitsSigned};
+ghost use Rattle.std.specs.Option.{option_map};
 ghost use Rattle.uac_entities.specs.EntityInterfaces.{entity_by_id};
 ghost use Rattle.uac_entities.specs.declared.entity.Entity.{Entity};
 ghost use Rattle.uac_topology.specs.Function.{FunctionFields};
@@ -11,12 +12,14 @@ ghost use Rattle.uac_store.specs.StoreControls.{IsStoreOf, count_of, takes};
 ghost use Rattle.uac_store.specs.Keyed.{value_of};
 ghost use Rattle.uac_store.specs.StoreValues.{is_legal};
 ghost use Rattle.uac_request.specs.Owners.{get_rules, owner_fields, set_rules};
+ghost use Rattle.uac_request.specs.RuleNumbers.{rule_number};
 ghost use Rattle.uac_request.specs.Requests as spec;
 ghost use Rattle.uac_request.specs.Requests.{by_entity, first_broken, request_state, key_named, least, owner_of, sent_value};
 
 use crate::bytes::value_from;
 use crate::controls::{has_range, is_declared, width_of, writable_entity};
 use crate::owner::Owner;
+use crate::rule::RequestRule;
 use crate::setup::{Setup, key_named, low_byte};
 use uac_alt::Settings;
 use uac_store::controls::{facts_at, selectors_of};
@@ -32,14 +35,14 @@ pub(crate) fn get_broken(
     sent: &[u8],
     range: bool,
     owner: Owner<'_>,
-) -> Option<u8>
+) -> Option<RequestRule>
     requires of_function { IsStoreOf function.now.entities store.now }
     requires asked { setup.now.request_type ≡ 161 }
     requires number { setup.now.request ≡ (if range then 2 else 1) }
     requires of_interface { spec.has_interface function.now (spec.low setup.now.index) ≡ true }
     requires of_index { owner_of function.now setup.now.index ≡ Some (owner_fields owner) }
     ensures broken { (settings : List InterfaceSetting)
-        → result ≡ first_broken function.now (request_state store.now settings) setup.now sent.now }
+        → option_map rule_number result ≡ first_broken function.now (request_state store.now settings) setup.now sent.now }
     ensures ranged { result ≡ None → range ≡ true → spec.has_range (owner_fields owner.entry) (spec.high setup.now.value) ≡ true }
 {
     broken_at(function, store, setup, sent, range, owner)
@@ -53,25 +56,25 @@ fn broken_at(
     sent: &[u8],
     range: bool,
     owner: Owner<'_>,
-) -> Option<u8>
+) -> Option<RequestRule>
     requires of_function { IsStoreOf function.now.entities store.now }
     requires of_index { owner_of function.now setup.now.index ≡ Some (owner_fields owner) }
-    ensures broken { result ≡ least (get_rules function.now setup.now sent.now (owner_fields owner.entry) range) }
+    ensures broken { option_map rule_number result ≡ least (get_rules function.now setup.now sent.now (owner_fields owner.entry) range) }
     ensures ranged { result ≡ None → range ≡ true → spec.has_range (owner_fields owner.entry) (spec.high setup.now.value) ≡ true }
 {
     let key = key_named(setup);
     if width_of(owner, key.selector).is_none() || (range && !has_range(owner, key.selector)) {
-        return Some(4);
+        return Some(RequestRule::UnknownSelector);
     }
     let within = is_in_range(store, setup, owner);
     if within && !is_declared(owner, key.selector, key.channel) {
-        return Some(5);
+        return Some(RequestRule::UndeclaredControl);
     }
     if !within {
-        return Some(6);
+        return Some(RequestRule::UnknownChannel);
     }
     if !sent.is_empty() {
-        return Some(8);
+        return Some(RequestRule::WrongLength);
     }
     None
 }
@@ -112,14 +115,14 @@ pub(crate) fn value_to_set(
     setup: &Setup,
     sent: &[u8],
     owner: Owner<'_>,
-) -> Result<i32, u8>
+) -> Result<i32, RequestRule>
     requires of_function { IsStoreOf function.now.entities store.now }
     requires asked { setup.now.request_type ≡ 33 }
     requires number { setup.now.request ≡ 1 }
     requires of_interface { spec.has_interface function.now (spec.low setup.now.index) ≡ true }
     requires of_index { owner_of function.now setup.now.index ≡ Some (owner_fields owner) }
     ensures broken { IfErr result
-        (λ rule. first_broken function.now (request_state store.now settings.now) setup.now sent.now ≡ Some rule) }
+        (λ rule. first_broken function.now (request_state store.now settings.now) setup.now sent.now ≡ Some (rule_number rule)) }
     ensures met { IfOk result (λ value. first_broken function.now (request_state store.now settings.now) setup.now sent.now ≡ None) }
     ensures value { IfOk result (λ value. value ≡ sent_value (owner_fields owner.entry) (spec.high setup.now.value) sent.now) }
     ensures kept { IfOk result (λ value. IsSome (value_of store.now (key_named setup.now))) }
@@ -137,12 +140,12 @@ fn value_sent(
     setup: &Setup,
     sent: &[u8],
     owner: Owner<'_>,
-) -> Result<i32, u8>
+) -> Result<i32, RequestRule>
     requires of_function { IsStoreOf function.now.entities store.now }
     requires of_index { owner_of function.now setup.now.index ≡ Some (owner_fields owner) }
     ensures broken { IfErr result
         (λ rule. least (set_rules function.now (request_state store.now settings.now) setup.now sent.now (owner_fields owner.entry))
-        ≡ Some rule) }
+        ≡ Some (rule_number rule)) }
     ensures met { IfOk result
         (λ value. least (set_rules function.now (request_state store.now settings.now) setup.now sent.now (owner_fields owner.entry))
         ≡ None) }
@@ -152,26 +155,26 @@ fn value_sent(
 {
     let key = key_named(setup);
     let Some(width) = width_of(owner, key.selector) else {
-        return Err(4);
+        return Err(RequestRule::UnknownSelector);
     };
     let within = is_in_range(store, setup, owner);
     if within && !is_declared(owner, key.selector, key.channel) {
-        return Err(5);
+        return Err(RequestRule::UndeclaredControl);
     }
     if !within {
-        return Err(6);
+        return Err(RequestRule::UnknownChannel);
     }
     let Some(entity) = writable_entity(owner, key.selector, key.channel) else {
-        return Err(7);
+        return Err(RequestRule::ReadOnlyControl);
     };
     if !(setup.length == u16::from(width) && sent.len() == usize::from(width)) {
-        return Err(8);
+        return Err(RequestRule::WrongLength);
     }
     let Some(value) = legal_value(function, store, entity, key, sent) else {
-        return Err(9);
+        return Err(RequestRule::IllegalValue);
     };
     if is_clock(entity.kind) && (settings.running() && store.cur(key) != Some(value)) {
-        return Err(10);
+        return Err(RequestRule::RunningClock);
     }
     Ok(value)
 }

@@ -7,11 +7,13 @@ ghost use Rattle.uac_request.specs.Owners.{owner_fields};
 ghost use Rattle.uac_request.specs.Requests as spec;
 ghost use Rattle.uac_request.specs.Requests.{AreSettingsOf, RequestState, after_request, answer_fields, first_broken};
 ghost use Rattle.uac_request.specs.Requests.{request_state, is_to_control, low, reply_of};
+ghost use Rattle.uac_request.specs.RuleNumbers.{rule_number};
 
 use crate::current::write_cur;
 use crate::owner::{Owner, has_interface, interface_named, owner_of, setting_named};
 use crate::ranging::write_ranges;
-use crate::reply::{Answer, Reply};
+use crate::reply::{Answer, Reply, stalled};
+use crate::rule::RequestRule;
 use crate::rules::{get_broken, value_to_set};
 use crate::setup::{Setup, key_named, low_byte};
 use crate::valid::is_valid;
@@ -38,10 +40,10 @@ pub(crate) fn get_cur(
 {
     let owner = match owner_named(function, setup) {
         Ok(owner) => owner,
-        Err(rule) => return Answer::Stall(rule),
+        Err(rule) => return stalled(rule),
     };
     match get_broken(function, store, setup, sent, false, owner) {
-        Some(rule) => Answer::Stall(rule),
+        Some(rule) => stalled(rule),
         None => {
             let mut reply = ArrayVec::new();
             write_cur(&mut reply, function, store, settings, setup, owner);
@@ -64,10 +66,10 @@ pub(crate) fn get_range(function: &Function, store: &Store, setup: &Setup, sent:
 {
     let owner = match owner_named(function, setup) {
         Ok(owner) => owner,
-        Err(rule) => return Answer::Stall(rule),
+        Err(rule) => return stalled(rule),
     };
     match get_broken(function, store, setup, sent, true, owner) {
-        Some(rule) => Answer::Stall(rule),
+        Some(rule) => stalled(rule),
         None => {
             let mut reply = ArrayVec::new();
             write_ranges(&mut reply, function, setup, owner);
@@ -96,14 +98,14 @@ pub(crate) fn set_cur(
 {
     let owner = match owner_named(function, setup) {
         Ok(owner) => owner,
-        Err(rule) => return Answer::Stall(rule),
+        Err(rule) => return stalled(rule),
     };
     match value_to_set(function, store, settings, setup, sent, owner) {
         Ok(value) => {
             store.set(key_named(setup), value);
             Answer::Done
         }
-        Err(rule) => Answer::Stall(rule),
+        Err(rule) => stalled(rule),
     }
 }
 
@@ -116,10 +118,10 @@ pub(crate) fn get_descriptor(function: &Function, setup: &Setup, sent: &[u8]) ->
     ensures held { (held : RequestState) → held ≡ after_request function.now held setup.now sent.now }
 {
     if setup.value != 0x0200 {
-        return Answer::Stall(4);
+        return stalled(RequestRule::UnknownSelector);
     }
     if !sent.is_empty() {
-        return Answer::Stall(8);
+        return stalled(RequestRule::WrongLength);
     }
     let to = if setup.length <= function.total() {
         setup.length
@@ -148,10 +150,10 @@ pub(crate) fn get_interface(
         → request_state controls settings.now ≡ after_request function.now (request_state controls settings.now) setup.now sent.now }
 {
     let Some(interface) = interface_named(function, setup.index) else {
-        return Answer::Stall(2);
+        return stalled(RequestRule::UnknownInterface);
     };
     if !sent.is_empty() {
-        return Answer::Stall(8);
+        return stalled(RequestRule::WrongLength);
     }
     let mut reply = ArrayVec::new();
     reply.push(settings.get(interface).unwrap_or(0));
@@ -177,16 +179,16 @@ pub(crate) fn set_interface(
     ensures of_function { AreSettingsOf function.now settings.new }
 {
     let Some(interface) = interface_named(function, setup.index) else {
-        return Answer::Stall(2);
+        return stalled(RequestRule::UnknownInterface);
     };
     if !(setup.length == 0 && sent.is_empty()) {
-        return Answer::Stall(8);
+        return stalled(RequestRule::WrongLength);
     }
     let Some(setting) = setting_named(function, interface, setup.value) else {
-        return Answer::Stall(11);
+        return stalled(RequestRule::UnknownSetting);
     };
     if !can_hold(function, store, interface, setting) {
-        return Answer::Stall(12);
+        return stalled(RequestRule::InvalidSetting);
     }
     settings.set(interface, setting);
     Answer::Done
@@ -204,19 +206,19 @@ fn can_hold(function: &Function, store: &Store, interface: u8, setting: u8) -> b
 
 // What keeps the control that a request names, or the rule by which it is stalled where nothing does.
 #[tactic(auto, using(crate::proofs::RequestsRuleLemmas::no_interface, crate::proofs::RequestsRuleLemmas::no_owner))]
-fn owner_named<'a>(function: &'a Function, setup: &Setup) -> Result<Owner<'a>, u8>
+fn owner_named<'a>(function: &'a Function, setup: &Setup) -> Result<Owner<'a>, RequestRule>
     requires { is_to_control setup.now ≡ true }
     ensures none { IfErr result
-        (λ rule. (held : RequestState) (sent : List ℕ) → first_broken function.now held setup.now sent ≡ Some rule) }
+        (λ rule. (held : RequestState) (sent : List ℕ) → first_broken function.now held setup.now sent ≡ Some (rule_number rule)) }
     ensures interface { IfOk result (λ owner. spec.has_interface function.now (low setup.now.index) ≡ true) }
     ensures owner { IfOk result (λ owner. spec.owner_of function.now setup.now.index ≡ Some (owner_fields owner)) }
 {
     if !has_interface(function, u16::from(low_byte(setup.index))) {
-        return Err(2);
+        return Err(RequestRule::UnknownInterface);
     }
     match owner_of(function, setup.index) {
         Some(owner) => Ok(owner),
-        None => Err(3),
+        None => Err(RequestRule::UnknownOwner),
     }
 }
 

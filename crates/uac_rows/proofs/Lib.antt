@@ -2,3 +2,4 @@ pub mod BusStepsLemmas
 pub mod RowsLemmas
 pub mod HostCallsFrameLemmas
 pub mod BusWorldElementLemmas
+pub mod AfterLemmas

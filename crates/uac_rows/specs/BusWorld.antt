@@ -4,8 +4,8 @@ use Rattle.std.specs.Prelude.{Result, Ok, Err}
 use Rattle.std.specs.List.{list_all}
 use Rattle.uac_pcm.specs.declared.tones.Tone.{Tone}
 use Rattle.uac_pcm.specs.declared.tones.Tone.TheVariants.{Silent, Ramp, Noise}
-use Rattle.uac_sentence.specs.declared.faults.GrammarFault.{GrammarFault}
-use Rattle.uac_sentence.specs.Grammar.{first_fault}
+use Rattle.uac_grammar_rules.specs.declared.faults.GrammarFault.{GrammarFault}
+use Rattle.uac_grammar_rules.specs.Grammar.{first_fault}
 use Rattle.uac_grammar.specs.Stop.{shown_fault}
 use Rattle.uac_topology_rules.specs.declared.fault.TopologyFault.{TopologyFault}
 use Rattle.uac_topology.specs.Topology.{first_fault_of}
@@ -26,7 +26,7 @@ use Rattle.uac_mixer.specs.declared.element.Element.{Element}
 use Rattle.uac_running.specs.RunningLines.{ready_line, report_lines}
 use Rattle.uac_fault.specs.declared.fault.BusFault.{BusFault}
 use Rattle.uac_fault.specs.declared.fault.BusFault.TheVariants as faults
-use Rattle.uac_configuration.specs.Description.{blocks_of, function_of}
+use Rattle.uac_topology.specs.Description.{blocks_of, function_of}
 
 -- before the descriptor's end: its bytes so far, and what the meters show; and from there on the running device
 pub data BusWorld : Type 0 where

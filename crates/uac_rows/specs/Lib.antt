@@ -2,5 +2,6 @@
 -- What the program's theorem says: to be read and believed.
 pub mod BusWorld
 pub mod BusSteps
+pub mod After
 -- What the contracts below them cite: steps of the code, no part of what is promised.
 pub mod Rows

@@ -10,10 +10,10 @@ use Rattle.uac_runner.specs.Machine.{Machine}
 use Rattle.uac_runner.specs.Run.{IsRun}
 use Rattle.uac_runner.specs.Transcript.{outcome_of}
 
-memory_is_no_write : (status : Status) → status ≡ statuses.NoMemory → status ≢ statuses.WriteFault
+pub memory_is_no_write : (status : Status) → status ≡ statuses.NoMemory → status ≢ statuses.WriteFault
 memory_is_no_write status is other = absurd (cc (is, other))
 
-pub run_on : {W L : Type 0} (m : Machine W L) (w : W) (Shows : W → Type 0) (before : Outside) (left : Option (List ℕ)) (reads : ℕ) (written written' : Option (List ℕ)) (writes writes' : ℕ)
+unfoldable pub run_on : {W L : Type 0} (m : Machine W L) (w : W) (Shows : W → Type 0) (before : Outside) (left : Option (List ℕ)) (reads : ℕ) (written written' : Option (List ℕ)) (writes writes' : ℕ)
     (status status' : Status) → Keeps written written' → HandsOn status writes writes' status' → IsRun m w Shows before (outside left reads written writes) status
     → IsRun m w Shows before (outside left reads written' writes') status'
 run_on m w Shows before left reads written written' writes writes' status status' kept ends run = record {

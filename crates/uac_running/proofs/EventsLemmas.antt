@@ -8,7 +8,7 @@ use Rattle.uac_units.specs.Hearing.{Reading, at_most_u64}
 use Rattle.uac_rate.specs.Steadiness as steadiness
 use Rattle.uac_device.specs.DeviceKept as device
 use Rattle.uac_device.specs.DeviceWorld.{DeviceWorld, after_advance, after_frames, after_deviation, heard_of, met_of, next_ticks, renders_of, set_jack, step_in, after_tick}
-use Rattle.uac_device_streams.specs.declared.ticking.Ticked.{Ticked}
+use Rattle.uac_device.specs.declared.ticking.Ticked.{Ticked}
 use Rattle.uac_script.specs.Phrase.{PhraseMark}
 use Rattle.uac_transcript.specs.Printing.{Prints, text_of}
 use Rattle.uac_transcript.proofs.PrintingLemmas.{front_after, front_of_more}
@@ -20,16 +20,16 @@ use Rattle.uac_streaming.specs.Telling.{Telling, telling_after, without_event}
 use Rattle.uac_host.specs.HostWorld.{HostWorld}
 use Rattle.uac_streaming.specs.StreamingKept.{StreamingFields}
 use Rattle.uac_streaming.specs.StreamingWorld.{StreamingWorld, found_counts, found_lines, met_in, numbers, numbers_in, numbers_out}
-use Rattle.uac_report.specs.declared.counts.TickCount.{TickCount}
+use Rattle.uac_running.specs.declared.counts.TickCount.{TickCount}
 use Rattle.uac_running.specs.declared.jacks.Jack.{Jack}
 use Rattle.uac_topology.specs.Function.{FunctionFields}
 use Rattle.uac_mixer.specs.ViewWorld.{IsViewOf, ViewWorld}
 use Rattle.uac_running.specs.RunningWorld.{RunningWorld, streaming_of, jack_with_tone, with_detail, with_deviation, with_streaming, with_jack_tone}
-use Rattle.uac_report.specs.ReportLines.{played_lines}
-use Rattle.uac_running.specs.Events.{after_all_jacks, domain_microframe, domain_microframes, ends_and_reports, followed_by, after_jacks, jacks_after_frame, microframe, microframes, next_frame, number_said, of_streams, packets_and_ticks, tick, tick_times}
+use Rattle.uac_running.specs.ReportLines.{played_lines}
+use Rattle.uac_running.specs.Events.{after_all_jacks, domain_microframe, domain_microframes, ends_and_feedback, followed_by, after_jacks, jacks_after_frame, microframe, microframes, next_frame, number_said, of_streams, packets_and_ticks, tick, tick_times}
 use Rattle.uac_running.specs.RunningTransfers.{break_at, with_break}
 use Rattle.uac_running.specs.RunningKept.{RunningFields, RunningStands, RunningStandsBetween, RunningTells, RunningTellsBetween}
-use Rattle.uac_report.specs.TickCounts.{tick_count_of, more_counted}
+use Rattle.uac_running.specs.TickCounts.{tick_count_of, more_counted}
 use Rattle.uac_running.specs.Silence.{AreAtRest}
 use Rattle.uac_running.proofs.RunningKeptLemmas.{clocks_of, tick_count_of-off, tick_count_of-stepped}
 use Rattle.uac_running.proofs.TellingLemmas.{at_ok, front_then, ok_then, tells_following, tells_then}
@@ -258,7 +258,7 @@ jacks_gave rest clock r jacks mid are rests gives =
     subst (λ (js : List Jack). (rest ≡ true → AreAtRest clock js r.device) → device.DeviceStands mid (after_jacks clock js r.device)) are gives rests
 
 -- jacks give, the device ticks, meters hear, and what rings were found empty and full is counted
-pub sounded : (rest : Bool) (clock count : ℕ) (shown showing : List Reading) (r : RunningWorld) (p q : RunningFields) (jacks : List Jack) (mid : device.DeviceFields) (found : Ticked) (f : FunctionFields)
+pub device_ticked : (rest : Bool) (clock count : ℕ) (shown showing : List Reading) (r : RunningWorld) (p q : RunningFields) (jacks : List Jack) (mid : device.DeviceFields) (found : Ticked) (f : FunctionFields)
     → RunningStands p shown r → (rest ≡ true → AreAtRest clock r.jacks r.device) → jacks ≡ p.jacks → f ≡ q.device.function
     → ((w : DeviceWorld) → device.DeviceStands p.device w → (rest ≡ true → AreAtRest clock jacks w) → device.DeviceStands mid (after_jacks clock jacks w))
     → (device.DeviceStands mid (gave clock r) → device.DeviceStands q.device (after_tick clock (gave clock r)))
@@ -270,7 +270,7 @@ pub sounded : (rest : Bool) (clock count : ℕ) (shown showing : List Reading) (
     → q.jacks ≡ jacks_after_frame clock jacks → q.counts ≡ p.counts → q.time ≡ p.time → q.detail ≡ p.detail → q.renders ≡ at_most_u64 (p.renders + count)
     → IsBeside p q → RunningStands q showing (tick clock r).world
 unfolding tick after_all_jacks after_tick set_jack
-sounded rest clock count shown showing r p q jacks mid found f stands rests own is_f gives ticks hears rendered meets finds gone counts time detail renders beside =
+device_ticked rest clock count shown showing r p q jacks mid found f stands rests own is_f gives ticks hears rendered meets finds gone counts time detail renders beside =
     let all : jacks ≡ r.jacks = own ∙ stands.jacks in
     let before = jacks_gave rest clock r jacks mid all rests (gives r.device stands.streaming.device) in
     let after = ticks before in
@@ -292,12 +292,12 @@ sounded rest clock count shown showing r p q jacks mid found f stands rests own 
     }
 
 -- what the tick found
-pub sounded_found : (rest : Bool) (clock : ℕ) (shown : List Reading) (r : RunningWorld) (p : RunningFields) (jacks : List Jack) (mid : device.DeviceFields) (found : Ticked)
+pub device_ticked_found : (rest : Bool) (clock : ℕ) (shown : List Reading) (r : RunningWorld) (p : RunningFields) (jacks : List Jack) (mid : device.DeviceFields) (found : Ticked)
     → RunningStands p shown r → (rest ≡ true → AreAtRest clock r.jacks r.device) → jacks ≡ p.jacks
     → ((w : DeviceWorld) → device.DeviceStands p.device w → (rest ≡ true → AreAtRest clock jacks w) → device.DeviceStands mid (after_jacks clock jacks w))
     → (device.DeviceStands mid (gave clock r) → found ≡ met_of clock (gave clock r)) → found ≡ met_of clock (after_all_jacks clock r)
 unfolding after_all_jacks
-sounded_found rest clock shown r p jacks mid found stands rests own gives meets =
+device_ticked_found rest clock shown r p jacks mid found stands rests own gives meets =
     meets (jacks_gave rest clock r jacks mid (own ∙ stands.jacks) rests (gives r.device stands.streaming.device))
 
 -- ---- what is told of an event
@@ -329,7 +329,7 @@ numbered r = record r { time = at_most_u64 (r.time + 1) }
 
 module _ (marks : List PhraseMark) (r : RunningWorld) where
   abbrev all_of_it : Telling RunningWorld
-  all_of_it = followed_by (packets_and_ticks marks) (ends_and_reports marks) (numbered r)
+  all_of_it = followed_by (packets_and_ticks marks) (ends_and_feedback marks) (numbered r)
 
   microframe_is : telling_after (number_said r.detail (at_most_u64 (r.time + 1))) all_of_it ≡ microframe marks r
   unfolding microframe
@@ -347,15 +347,15 @@ module _ (marks : List PhraseMark) (r : RunningWorld) where
   microframe_next_front old mid new number front =
       subst (λ (told : Telling RunningWorld). AppendsFront old new (text_of told.lines)) microframe_is
       (front_after old mid new (number_said r.detail (at_most_u64 (r.time + 1))) all_of_it.lines number
-      (front_then (packets_and_ticks marks) (ends_and_reports marks) (numbered r) mid new front))
+      (front_then (packets_and_ticks marks) (ends_and_feedback marks) (numbered r) mid new front))
 
   -- all of it, or what lies after these
   pub microframe_told : {E : Type 0} (p : RunningFields) (meters : List Reading) (old mid later new : Option (List ℕ)) (result : Result (Unit {0}) E)
       → HaveRoom (microframe marks r).world.device → Appends old mid (text_of (number_said r.detail (at_most_u64 (r.time + 1))))
       → Appends mid later (text_of (packets_and_ticks marks (numbered r)).lines)
-      → RunningTells (ends_and_reports marks (packets_and_ticks marks (numbered r)).world) p meters later new result → RunningTellsBetween (microframe marks r) p meters old new result
+      → RunningTells (ends_and_feedback marks (packets_and_ticks marks (numbered r)).world) p meters later new result → RunningTellsBetween (microframe marks r) p meters old new result
   microframe_told {E = E} p meters old mid later new result room number first next =
       let whole = subst (λ (told : Telling RunningWorld). RunningTells told p meters old new result) microframe_is
       (tells_following (number_said r.detail (at_most_u64 (r.time + 1))) all_of_it p meters old mid new result number
-      (tells_then (packets_and_ticks marks) (ends_and_reports marks) (numbered r) p meters mid later new result first next)) in
+      (tells_then (packets_and_ticks marks) (ends_and_feedback marks) (numbered r) p meters mid later new result first next)) in
       (whole.0, ok_then (RunningStands p meters (microframe marks r).world) (RunningStandsBetween p meters (microframe marks r).world) result (λ stands. record { now = stands; room = room }) whole.1)

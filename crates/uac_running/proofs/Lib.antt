@@ -1,3 +1,4 @@
+pub mod ReportLinesLemmas
 pub mod TellingLemmas
 pub mod RunningKeptJackLemmas
 pub mod StillnessLemmas

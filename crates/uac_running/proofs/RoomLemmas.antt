@@ -14,10 +14,10 @@ use Rattle.uac_streaming.specs.StreamingWorld.{after_following, in_packets, lose
 use Rattle.uac_streaming.specs.Room.{HaveRoom}
 use Rattle.uac_streaming.proofs.RoomDeviceLemmas.{AreWithin, HaveSmallNumbers, advanced_within, all_fit, all_opened, any_clock, jack_within, ticked_within}
 use Rattle.uac_streaming.proofs.RoomStartLemmas.{controlled_room, deviated_room}
-use Rattle.uac_streaming.proofs.RoomTurnLemmas.{IsRoomy, all_reported_keeps, all_settled_room, in_packets_within, out_packets_within}
+use Rattle.uac_streaming.proofs.RoomTurnLemmas.{IsRoomy, all_feedback_keeps, all_ends_room, in_packets_within, out_packets_within}
 use Rattle.uac_running.specs.declared.jacks.Jack.{Jack}
 use Rattle.uac_running.specs.RunningWorld.{RunningWorld, streaming_of, with_deviation, with_streaming}
-use Rattle.uac_running.specs.Events.{after_all_jacks, domain_microframe, domain_microframes, ends_and_reports, after_jacks, microframe, next_frame, packets_and_ticks, tick, tick_times}
+use Rattle.uac_running.specs.Events.{after_all_jacks, domain_microframe, domain_microframes, ends_and_feedback, after_jacks, microframe, next_frame, packets_and_ticks, tick, tick_times}
 use Rattle.uac_running.specs.RunningTransfers.{acts, holds_setting, after_transfer}
 
 -- ---- ticks
@@ -79,10 +79,10 @@ zeros_fit_in marks r room interface =
     all_fit (λ function. Unit {0}) (loses_out marks) [] 0 (packets_and_ticks marks r).world.device interface (ticks_within (λ function. Unit {0}) marks r tt room)
 
 ends_room : (about : FunctionFields → Type 0) (marks : List PhraseMark) (r : RunningWorld) → HaveSmallNumbers r.device.function
-    → AreWithin about (loses_out marks) [] 0 0 r.device → IsRoomy about (ends_and_reports marks r).world.device
-unfolding ends_and_reports
+    → AreWithin about (loses_out marks) [] 0 0 r.device → IsRoomy about (ends_and_feedback marks r).world.device
+unfolding ends_and_feedback
 ends_room about marks r small is =
-    all_reported_keeps (IsRoomy about) r.detail marks _ (all_settled_room about r.detail (loses_out marks) 0 (streaming_of r) small is)
+    all_feedback_keeps (IsRoomy about) r.detail marks _ (all_ends_room about r.detail (loses_out marks) 0 (streaming_of r) small is)
 
 -- after it there is room, if the numbers of interfaces are bytes; what is so of the device's function stays so
 pub microframe_room : (about : FunctionFields → Type 0) → ((function : FunctionFields) → about function → HaveSmallNumbers function)

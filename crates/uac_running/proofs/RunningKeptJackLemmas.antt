@@ -15,7 +15,7 @@ use Rattle.uac_running.specs.declared.jacks.Jack.{Jack}
 use Rattle.uac_running.specs.Events.{after_one, after_jacks, after_jack, jacks_after_frame, next_frame}
 use Rattle.uac_running.specs.RunningWorld.{jack_with_tone}
 use Rattle.uac_device.proofs.DeviceKeptLemmas.{all_changed}
-use Rattle.uac_device_streams.proofs.ListChangeLemmas.{IsTurnedBelow, untouched}
+use Rattle.uac_device.proofs.ListChangeLemmas.{IsTurnedBelow, untouched}
 use Rattle.uac_running.specs.RunningKept.{HasItsJacks, RunningFields}
 
 -- one jack more
@@ -81,9 +81,9 @@ silent_frame j silent = ap (λ (t : Tone). map (tone_sample t j.place) (range_wi
     zeros from (suc n) = ap (λ (zs : List ℤ). pos 0 ∷ zs) (zeros (from + 1) n)
 
 -- a jack of the domain that sounds its tone's frame gives it
-pub sounded_given : (clock channels : ℕ) (j : Jack) (w : DeviceWorld) (new : DeviceFields) → j.domain ≡ clock → channels ≡ j.channels
+pub tone_given : (clock channels : ℕ) (j : Jack) (w : DeviceWorld) (new : DeviceFields) → j.domain ≡ clock → channels ≡ j.channels
     → DeviceStands new (set_jack j.terminal (tone_frame channels j.tone j.place) w) → DeviceStands new (after_jack clock j w)
 unfolding next_frame
-sounded_given clock channels j w new here same stands =
+tone_given clock channels j w new here same stands =
     subst (DeviceStands new) (ap (λ (b : Bool). if b then set_jack j.terminal (next_frame j) w else w) (sym (eq-eqb j.domain clock here)))
     (subst (λ (n : ℕ). DeviceStands new (set_jack j.terminal (tone_frame n j.tone j.place) w)) same stands)

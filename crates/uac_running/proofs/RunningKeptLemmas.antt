@@ -8,10 +8,10 @@ use Rattle.std.proofs.lemmas.Map.Keys.{IsDistinct-head, IsDistinct-tail}
 use Rattle.uac_units.specs.Hearing.{at_most_u64}
 use Rattle.uac_clock.specs.Ticks.{ticks_in}
 use Rattle.uac_device.specs.DeviceWorld.{Domain}
-use Rattle.uac_report.specs.declared.counts.TickCount.{TickCount}
+use Rattle.uac_running.specs.declared.counts.TickCount.{TickCount}
 use Rattle.uac_topology.specs.Function.{FunctionFields}
 use Rattle.uac_running.specs.RunningKept.{HasItsDomains, RunningFields}
-use Rattle.uac_report.specs.TickCounts.{tick_count_of, more_counted}
+use Rattle.uac_running.specs.TickCounts.{tick_count_of, more_counted}
 
 -- a domain that is off by another deviation
 abbrev pub off_by : ℕ → ℤ → Domain → Domain

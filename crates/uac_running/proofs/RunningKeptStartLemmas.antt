@@ -26,11 +26,11 @@ use Rattle.uac_streaming.specs.StreamingWorld.{streaming_start}
 use Rattle.uac_mixer.specs.ViewWorld.{known_view}
 use Rattle.uac_mixer.proofs.ReadingLemmas.{function_kept}
 use Rattle.uac_store.specs.StoreControls.{initial_controls}
-use Rattle.uac_configuration.specs.Configuration.{configuration_of}
-use Rattle.uac_report.specs.declared.counts.TickCount.{TickCount}
+use Rattle.uac_topology.specs.Configuration.{configuration_of}
+use Rattle.uac_running.specs.declared.counts.TickCount.{TickCount}
 use Rattle.uac_running.specs.declared.jacks.Jack.{Jack}
 use Rattle.uac_running.specs.RunningKept.{HasItsDomains, HasItsJacks, RunningFields, RunningStandsBetween}
-use Rattle.uac_report.specs.TickCounts.{tick_count_of, none_counted}
+use Rattle.uac_running.specs.TickCounts.{tick_count_of, none_counted}
 use Rattle.uac_running.specs.RunningWorld.{at_start, silent_jack}
 use Rattle.uac_running.proofs.RunningKeptLemmas.{clocks_of}
 use Rattle.uac_streaming.proofs.RoomStartLemmas.{fresh_room}

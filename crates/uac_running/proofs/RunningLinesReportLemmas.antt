@@ -4,17 +4,17 @@ use Rattle.std.specs.Io.KnownBytes.{Appends}
 use Rattle.uac_rate.specs.Steadiness as steadiness
 use Rattle.uac_units.specs.Hearing.{Reading}
 use Rattle.uac_edges.specs.Writing.{AppendsFront}
-use Rattle.uac_transcript.specs.Transcript.{Said, says_meter, says_passed, says_renders, says_steady}
+use Rattle.uac_transcript.specs.Transcript.{Said, says_meter, says_time, says_renders, says_steady}
 use Rattle.uac_transcript.specs.Printing.{Prints, text_of}
 use Rattle.uac_transcript.proofs.PrintingLemmas.{Prints-after, front_of_more}
 use Rattle.uac_running.specs.RunningWorld.{RunningWorld, is_steady}
 use Rattle.uac_running.specs.RunningLines.{report_lines}
-use Rattle.uac_report.specs.ReportLines.{domain_line, stream_line}
+use Rattle.uac_running.specs.ReportLines.{domain_line, stream_line}
 use Rattle.uac_running.specs.RunningKept.{RunningFields, RunningStands}
 
 -- the first two lines
 abbrev pub head_lines : ℕ → Bool → List Said
-head_lines time steady = says_passed time ∷ says_steady steady ∷ []
+head_lines time steady = says_time time ∷ says_steady steady ∷ []
 
 -- the other lines
 abbrev rest_lines : RunningWorld → List Reading → ℕ → List Said

@@ -37,7 +37,7 @@ use Rattle.uac_streaming.specs.StreamingWorld.{StreamingWorld, after_following, 
 use Rattle.uac_running.specs.RunningWorld.{RunningWorld, streaming_of}
 use Rattle.uac_running.specs.RunningTransfers.{IsRead, acts, break_at, breaks_before, comes_back, holds_setting, reply_in, streams_follow, after_transfer, with_begun, with_break}
 use Rattle.uac_running.specs.RunningKept.{RunningFields, RunningStands}
-use Rattle.uac_report.specs.TickCounts.{tick_count_of}
+use Rattle.uac_running.specs.TickCounts.{tick_count_of}
 
 -- what a device that stands for a world would answer
 replies : (d : device.DeviceFields) (r : RunningWorld) (p : Setup) (sent : List ℕ) → device.DeviceStands d r.device

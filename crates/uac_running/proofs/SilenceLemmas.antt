@@ -10,7 +10,7 @@ use Rattle.uac_topology.specs.Function.{FunctionFields}
 use Rattle.uac_graph.specs.Meaning.{entity}
 use Rattle.uac_graph.specs.Wiring.{silence}
 use Rattle.uac_units.specs.Hearing.{Reading}
-use Rattle.uac_device_streams.specs.InterfaceStreams.{NoneRuns}
+use Rattle.uac_device.specs.InterfaceStreams.{NoneRuns}
 use Rattle.uac_device.specs.DeviceKept as device
 use Rattle.uac_device.specs.DeviceWorld.{DeviceWorld, entity_in, input_of, is_input_jack, is_jack, is_streamed, set_jack, streamed_frame, after_tick}
 use Rattle.uac_device.specs.Stillness.{IsStill}
@@ -18,20 +18,20 @@ use Rattle.uac_device.proofs.DeviceKeptLemmas.{all_changed}
 use Rattle.uac_running.specs.declared.jacks.Jack.{Jack}
 use Rattle.uac_running.specs.RunningWorld.{RunningWorld}
 use Rattle.uac_running.specs.Events.{after_one, after_all_jacks, after_jacks, after_jack, jacks_after_frame, next_frame, tick}
-use Rattle.uac_running.specs.Silence.{AreAtRest, GaveSilence, one_sounds, sounds}
+use Rattle.uac_running.specs.Silence.{AreAtRest, GaveSilence, one_is_audible, is_audible}
 use Rattle.uac_running.specs.RunningKept.{HasItsJacks, RunningFields, RunningStands}
 use Rattle.uac_running.proofs.RunningKeptJackLemmas.{silent_frame}
 use Rattle.uac_running.proofs.EventsLemmas.{after_jacks-kept}
 use Rattle.uac_running.proofs.StillnessLemmas.{stills_after}
 
-silent_tone : (t : Tone) → sounds t ≡ false → t ≡ tones.Silent
+silent_tone : (t : Tone) → is_audible t ≡ false → t ≡ tones.Silent
 silent_tone tones.Silent quiet = refl
 silent_tone (tones.Ramp start step) quiet = absurd (true≢false quiet)
 silent_tone (tones.Noise seed) quiet = absurd (true≢false quiet)
 
 -- a jack of the domain that doesn't sound gives silence
-silent_of : (clock : ℕ) (j : Jack) → (j.domain == clock && sounds j.tone) ≡ false → j.domain ≡ clock → next_frame j ≡ silence j.channels
-silent_of clock j quiet here = silent_frame j (silent_tone j.tone (ap (λ (b : Bool). b && sounds j.tone) (sym (eq-eqb j.domain clock here)) ∙ quiet))
+silent_of : (clock : ℕ) (j : Jack) → (j.domain == clock && is_audible j.tone) ≡ false → j.domain ≡ clock → next_frame j ≡ silence j.channels
+silent_of clock j quiet here = silent_frame j (silent_tone j.tone (ap (λ (b : Bool). b && is_audible j.tone) (sym (eq-eqb j.domain clock here)) ∙ quiet))
 
 given_cons : (clock : ℕ) (j : Jack) (js : List Jack) (w : DeviceWorld) → after_jacks clock (j ∷ js) w ≡ after_jacks clock js (after_jack clock j w)
 given_cons clock j js w = elim (cases_Bool (j.domain == clock)) [ inl same ↦ rw same refl | inr other ↦ rw other refl ]
@@ -76,11 +76,11 @@ same_stands clock j d w again stands =
     ]
 
 -- where the jacks of a domain rest, the device stands as it is for the world in which they gave
-pub given_again : (clock : ℕ) (jacks : List Jack) (d : device.DeviceFields) (w : DeviceWorld) → one_sounds clock jacks ≡ false → All (GaveSilence clock w) jacks → device.DeviceStands d w
+pub given_again : (clock : ℕ) (jacks : List Jack) (d : device.DeviceFields) (w : DeviceWorld) → one_is_audible clock jacks ≡ false → All (GaveSilence clock w) jacks → device.DeviceStands d w
     → device.DeviceStands d (after_jacks clock jacks w)
 given_again clock [] d w quiet gave stands = stands
 given_again clock (j ∷ js) d w quiet gave stands =
-    let quiets = or_parts (j.domain == clock && sounds j.tone) (one_sounds clock js) quiet in
+    let quiets = or_parts (j.domain == clock && is_audible j.tone) (one_is_audible clock js) quiet in
     let again : j.domain ≡ clock → w.given j.terminal ≡ next_frame j = λ here. All-head (GaveSilence clock w) j js gave here ∙ sym (silent_of clock j quiets.0 here) in
     subst (device.DeviceStands d) (sym (given_cons clock j js w))
     (given_again clock js d (after_jack clock j w) quiets.1
@@ -102,7 +102,7 @@ gives_now clock j w here =
     ap (λ (b : Bool). if b then set_jack j.terminal (next_frame j) w else w) (eq-eqb j.domain clock here) in
     ap (λ (v : DeviceWorld). v.given j.terminal) set ∙ ap (λ (b : Bool). if b then next_frame j else w.given j.terminal) (eq-eqb j.terminal j.terminal refl)
 
-one_stays : (f : FunctionFields) (clock id : ℕ) (j : Jack) (w : DeviceWorld) → (j.domain == clock && sounds j.tone) ≡ false → Fits f j → w.given id ≡ rest_of f id
+one_stays : (f : FunctionFields) (clock id : ℕ) (j : Jack) (w : DeviceWorld) → (j.domain == clock && is_audible j.tone) ≡ false → Fits f j → w.given id ≡ rest_of f id
     → (after_jack clock j w).given id ≡ rest_of f id
 unfolding set_jack
 one_stays f clock id j w quiet fits is =
@@ -118,11 +118,11 @@ one_stays f clock id j w quiet fits is =
       | inr other ↦ rw other is
     ]
 
-stays : (f : FunctionFields) (clock id : ℕ) (jacks : List Jack) (w : DeviceWorld) → one_sounds clock jacks ≡ false → All (Fits f) jacks → w.given id ≡ rest_of f id
+stays : (f : FunctionFields) (clock id : ℕ) (jacks : List Jack) (w : DeviceWorld) → one_is_audible clock jacks ≡ false → All (Fits f) jacks → w.given id ≡ rest_of f id
     → (after_jacks clock jacks w).given id ≡ rest_of f id
 stays f clock id [] w quiet fits is = is
 stays f clock id (j ∷ js) w quiet fits is =
-    let quiets = or_parts (j.domain == clock && sounds j.tone) (one_sounds clock js) quiet in
+    let quiets = or_parts (j.domain == clock && is_audible j.tone) (one_is_audible clock js) quiet in
     ap (λ (v : DeviceWorld). v.given id) (given_cons clock j js w)
     ∙ stays f clock id js (after_jack clock j w) quiets.1 (All-tail (Fits f) j js fits) (one_stays f clock id j w quiets.0 (All-head (Fits f) j js fits) is)
 
@@ -130,11 +130,11 @@ stays f clock id (j ∷ js) w quiet fits is =
 abbrev HasGiven : FunctionFields → ℕ → DeviceWorld → Jack → Type 0
 HasGiven f clock w j = j.domain ≡ clock → w.given j.terminal ≡ rest_of f j.terminal
 
-all_gave : (f : FunctionFields) (clock : ℕ) (jacks : List Jack) (w : DeviceWorld) → one_sounds clock jacks ≡ false → All (Fits f) jacks
+all_gave : (f : FunctionFields) (clock : ℕ) (jacks : List Jack) (w : DeviceWorld) → one_is_audible clock jacks ≡ false → All (Fits f) jacks
     → All (HasGiven f clock (after_jacks clock jacks w)) jacks
 all_gave f clock [] w quiet fits = All-nil (HasGiven f clock w)
 all_gave f clock (j ∷ js) w quiet fits =
-    let quiets = or_parts (j.domain == clock && sounds j.tone) (one_sounds clock js) quiet in
+    let quiets = or_parts (j.domain == clock && is_audible j.tone) (one_is_audible clock js) quiet in
     let v = after_jack clock j w in
     subst (λ (u : DeviceWorld). All (HasGiven f clock u) (j ∷ js)) (sym (given_cons clock j js w))
     (All-cons (HasGiven f clock (after_jacks clock js v)) j js
@@ -158,18 +158,18 @@ clock_on clock j = elim (cases_Bool (j.domain == clock)) [ inl same ↦ rw same 
 tone_on : (clock : ℕ) (j : Jack) → (after_one clock j).tone ≡ j.tone
 tone_on clock j = elim (cases_Bool (j.domain == clock)) [ inl same ↦ rw same refl | inr other ↦ rw other refl ]
 
-quiet_on : (clock : ℕ) (jacks : List Jack) → one_sounds clock (jacks_after_frame clock jacks) ≡ one_sounds clock jacks
+quiet_on : (clock : ℕ) (jacks : List Jack) → one_is_audible clock (jacks_after_frame clock jacks) ≡ one_is_audible clock jacks
 quiet_on clock [] = refl
 quiet_on clock (j ∷ js) =
-    let here : ((after_one clock j).domain == clock && sounds (after_one clock j).tone) ≡ (j.domain == clock && sounds j.tone) =
-    ap (λ (n : ℕ). n == clock && sounds (after_one clock j).tone) (clock_on clock j) ∙ ap (λ (t : Tone). j.domain == clock && sounds t) (tone_on clock j) in
-    ap (λ (b : Bool). b || one_sounds clock (jacks_after_frame clock js)) here ∙ ap (λ (b : Bool). (j.domain == clock && sounds j.tone) || b) (quiet_on clock js)
+    let here : ((after_one clock j).domain == clock && is_audible (after_one clock j).tone) ≡ (j.domain == clock && is_audible j.tone) =
+    ap (λ (n : ℕ). n == clock && is_audible (after_one clock j).tone) (clock_on clock j) ∙ ap (λ (t : Tone). j.domain == clock && is_audible t) (tone_on clock j) in
+    ap (λ (b : Bool). b || one_is_audible clock (jacks_after_frame clock js)) here ∙ ap (λ (b : Bool). (j.domain == clock && is_audible j.tone) || b) (quiet_on clock js)
 
 gone_so : (P : ℕ → ℕ → ℕ → Type 0) (clock : ℕ) (j : Jack) → P j.domain j.terminal j.channels
     → P (after_one clock j).domain (after_one clock j).terminal (after_one clock j).channels
 gone_so P clock j holds = elim (cases_Bool (j.domain == clock)) [ inl same ↦ rw same holds | inr other ↦ rw other holds ]
 
-pub rests_after : (clock : ℕ) (meters : List Reading) (r : RunningWorld) (p : RunningFields) → RunningStands p meters r → HasItsJacks p → one_sounds clock r.jacks ≡ false
+pub rests_after : (clock : ℕ) (meters : List Reading) (r : RunningWorld) (p : RunningFields) → RunningStands p meters r → HasItsJacks p → one_is_audible clock r.jacks ≡ false
     → AreAtRest clock (tick clock r).world.jacks (tick clock r).world.device
 unfolding tick after_tick after_all_jacks set_jack
 rests_after clock meters r p stands jacks quiet =
@@ -198,7 +198,7 @@ rests_after clock meters r p stands jacks quiet =
 -- where it is still no interface runs a stream, and where its streams rest the terminals of the bus gave silence last
 pub record RestsSo (silent still jacks device_streams : Bool) (clock : ℕ) (p : RunningFields) (meters : List Reading) (r : RunningWorld) : Type 0 where
   pub now : RunningStands p meters r
-  pub quiet : silent ≡ true → one_sounds clock r.jacks ≡ false
+  pub quiet : silent ≡ true → one_is_audible clock r.jacks ≡ false
   pub none : still ≡ true → NoneRuns r.device.outs r.device.ins
   pub rests : jacks ≡ true → AreAtRest clock r.jacks r.device
   pub stills : device_streams ≡ true → IsStill clock r.device
@@ -208,11 +208,11 @@ not_so true e = absurd (true≢false (sym e))
 not_so false e = refl
 
 pub begun_to_tick : (sounding running : Bool) (clock : ℕ) (p : RunningFields) (jacks : List Jack) (meters : List Reading) (r : RunningWorld) → RunningStands p meters r
-    → sounding ≡ one_sounds clock jacks → jacks ≡ p.jacks → (running ≡ false → NoneRuns r.device.outs r.device.ins)
+    → sounding ≡ one_is_audible clock jacks → jacks ≡ p.jacks → (running ≡ false → NoneRuns r.device.outs r.device.ins)
     → RestsSo (not sounding) (not running) false false clock p meters r
 begun_to_tick sounding running clock p jacks meters r stands heard own none = record {
   now = stands;
-  quiet = λ e. ap (one_sounds clock) (sym (own ∙ stands.jacks)) ∙ sym heard ∙ not_so sounding e;
+  quiet = λ e. ap (one_is_audible clock) (sym (own ∙ stands.jacks)) ∙ sym heard ∙ not_so sounding e;
   none = λ e. none (not_so running e);
   rests = λ e. absurd (true≢false (sym e));
   stills = λ e. absurd (true≢false (sym e));
@@ -220,7 +220,7 @@ begun_to_tick sounding running clock p jacks meters r stands heard own none = re
 
 pub after_one_tick : (silent still jacks device_streams : Bool) (clock : ℕ) (p q : RunningFields) (shown showing : List Reading) (r : RunningWorld) → RestsSo silent still jacks device_streams clock p shown r
     → RunningStands q showing (tick clock r).world
-    → (one_sounds clock r.jacks ≡ false → AreAtRest clock (tick clock r).world.jacks (tick clock r).world.device)
+    → (one_is_audible clock r.jacks ≡ false → AreAtRest clock (tick clock r).world.jacks (tick clock r).world.device)
     → RestsSo silent still silent still clock q showing (tick clock r).world
 after_one_tick silent still jacks device_streams clock p q shown showing r s stands rests = record {
   now = stands;

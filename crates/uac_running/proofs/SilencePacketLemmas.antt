@@ -8,15 +8,15 @@ use Rattle.uac_transcript.specs.Transcript.{Said}
 use Rattle.uac_transcript.specs.Printing.{text_of}
 use Rattle.uac_streaming.specs.Telling as streams
 use Rattle.uac_streaming.specs.Telling.{Telling, telling_after, without_event}
-use Rattle.uac_streaming.specs.StreamingWorld.{StreamingWorld, all_reported, all_settled, in_packets, out_packets}
-use Rattle.uac_streaming.proofs.StreamingWorldQuietLemmas.{IsQuiet, Quietly, quiet_ends, quiet_in, quiet_out, quiet_reports}
+use Rattle.uac_streaming.specs.StreamingWorld.{StreamingWorld, all_feedback, all_ends, in_packets, out_packets}
+use Rattle.uac_streaming.proofs.StreamingWorldQuietLemmas.{IsQuiet, Quietly, quiet_ends, quiet_in, quiet_out, quiet_feedback}
 use Rattle.uac_running.specs.RunningWorld.{RunningWorld, streaming_of, with_streaming}
-use Rattle.uac_running.specs.Events.{all_domains, ends_and_reports, followed_by, of_streams, packets_and_ticks}
+use Rattle.uac_running.specs.Events.{all_domains, ends_and_feedback, followed_by, of_streams, packets_and_ticks}
 use Rattle.uac_running.specs.RunningKept.{RunningFields, RunningStands, RunningTells}
 use Rattle.uac_running.specs.Silence.{packets}
 use Rattle.uac_running.proofs.TellingLemmas.{Appends-nothing, tells_then, telling_after-telling_after}
 use Rattle.uac_running.proofs.EventsLemmas.{streams_told}
-use Rattle.uac_running.proofs.StreamingWorldLemmas.{all_settled-keep}
+use Rattle.uac_running.proofs.StreamingWorldLemmas.{all_ends-keep}
 
 -- the packets come first
 pub packets_first : (marks : List PhraseMark) (r : RunningWorld) → followed_by (packets marks) all_domains r ≡ packets_and_ticks marks r
@@ -46,15 +46,15 @@ quiet_packets_told marks p meters r old none stands =
     stands
 
 pub quiet_ends_told : (marks : List PhraseMark) (p : RunningFields) (meters : List Reading) (r : RunningWorld) (old : Option (List ℕ)) → IsQuiet (streaming_of r) → RunningStands p meters r
-    → RunningTells {E = Failed} (ends_and_reports marks r) p meters old old (Ok tt)
-unfolding ends_and_reports
+    → RunningTells {E = Failed} (ends_and_feedback marks r) p meters old old (Ok tt)
+unfolding ends_and_feedback
 quiet_ends_told marks p meters r old none stands =
-    let ended : Quietly p.streaming p.device (all_settled r.detail (streaming_of r)) = quiet_ends r.detail p.streaming p.device (streaming_of r) none stands.streaming in
-    let after = (of_streams (all_settled r.detail) r).world in
-    let first : RunningTells {E = Failed} (of_streams (all_settled r.detail) r) p meters old old (Ok tt) =
-    streams_told meters r p p stands {E = Failed} (all_settled r.detail) old old (Ok tt)
+    let ended : Quietly p.streaming p.device (all_ends r.detail (streaming_of r)) = quiet_ends r.detail p.streaming p.device (streaming_of r) none stands.streaming in
+    let after = (of_streams (all_ends r.detail) r).world in
+    let first : RunningTells {E = Failed} (of_streams (all_ends r.detail) r) p meters old old (Ok tt) =
+    streams_told meters r p p stands {E = Failed} (all_ends r.detail) old old (Ok tt)
     (subst (λ (ls : List Said). Appends old old (text_of ls)) (sym ended.lines) (Appends-nothing old), ended.stands)
-    (all_settled-keep r.detail (streaming_of r)) refl refl refl refl refl (record { view = refl; configuration = refl; breaks = refl }) in
-    tells_then {E = Failed} (of_streams (all_settled r.detail)) (of_streams (all_reported r.detail marks)) r p meters old old old (Ok tt) first.0
-    (still_told (of_streams (all_reported r.detail marks) after) p meters after old
-    (still_streams (all_reported r.detail marks) after (quiet_reports r.detail marks (streaming_of after) ended.quiet)) first.1)
+    (all_ends-keep r.detail (streaming_of r)) refl refl refl refl refl (record { view = refl; configuration = refl; breaks = refl }) in
+    tells_then {E = Failed} (of_streams (all_ends r.detail)) (of_streams (all_feedback r.detail marks)) r p meters old old old (Ok tt) first.0
+    (still_told (of_streams (all_feedback r.detail marks) after) p meters after old
+    (still_streams (all_feedback r.detail marks) after (quiet_feedback r.detail marks (streaming_of after) ended.quiet)) first.1)

@@ -7,7 +7,7 @@ use Rattle.uac_topology.specs.Function.{FunctionFields}
 use Rattle.uac_graph.specs.Meaning.{entity}
 use Rattle.uac_units.specs.Hearing.{Reading}
 use Rattle.uac_flow.specs.FlowStreams.{InStream, OutStream}
-use Rattle.uac_device_streams.specs.InterfaceStreams.{NoneRuns}
+use Rattle.uac_device.specs.InterfaceStreams.{NoneRuns}
 use Rattle.uac_device.specs.DeviceWorld.{DeviceWorld, is_input_jack, set_jack}
 use Rattle.uac_device.specs.Stillness.{IsStill}
 use Rattle.uac_device.proofs.StillnessLemmas.{still_after, still_given}

@@ -1,12 +1,12 @@
 -- Worked values of what is told.
 use Rattle.std.proofs.Common.{◌≡◌, [], ◌∷◌, refl}
-use Rattle.uac_transcript.specs.Transcript.{says_over, says_time, says_under}
+use Rattle.uac_transcript.specs.Transcript.{says_over, says_microframe, says_under}
 use Rattle.uac_running.specs.RunningWorld.{RunningWorld}
 use Rattle.uac_streaming.specs.Telling.{Telling}
 use Rattle.uac_running.specs.Events.{followed_by, number_said}
 
 -- the number of a microframe is said at detail 2 alone
-numbers_said : (number_said 0 7 ≡ []) × (number_said 1 7 ≡ []) × (number_said 2 7 ≡ says_time 7 ∷ [])
+numbers_said : (number_said 0 7 ≡ []) × (number_said 1 7 ≡ []) × (number_said 2 7 ≡ says_microframe 7 ∷ [])
 numbers_said = (refl, refl, refl)
 
 -- two events, of which the second tells the time that the first left

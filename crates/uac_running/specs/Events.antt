@@ -6,13 +6,13 @@ use Rattle.uac_pcm.specs.Tones.{tone_frame}
 use Rattle.uac_device.specs.DeviceWorld.{DeviceWorld, after_advance, next_ticks, renders_of, set_jack, after_tick, heard_of, after_frames}
 use Rattle.uac_units.specs.Hearing.{at_most_u64}
 use Rattle.uac_script.specs.Phrase.{PhraseMark}
-use Rattle.uac_transcript.specs.Transcript.{Said, says_time}
+use Rattle.uac_transcript.specs.Transcript.{Said, says_microframe}
 use Rattle.uac_running.specs.declared.jacks.Jack.{Jack}
 use Rattle.uac_streaming.specs.Telling.{Telling, telling_after, without_event}
-use Rattle.uac_streaming.specs.StreamingWorld.{StreamingWorld, all_reported, all_settled, found_counts, found_lines, in_packets}
+use Rattle.uac_streaming.specs.StreamingWorld.{StreamingWorld, all_feedback, all_ends, found_counts, found_lines, in_packets}
 use Rattle.uac_streaming.specs.StreamingWorld.{out_packets}
 use Rattle.uac_running.specs.RunningWorld.{RunningWorld, streaming_of, with_streaming}
-use Rattle.uac_report.specs.ReportLines.{played_lines}
+use Rattle.uac_running.specs.ReportLines.{played_lines}
 
 -- the frame that a jack's tone gives next
 unfoldable pub next_frame : Jack → List ℤ
@@ -72,7 +72,7 @@ domain_microframes (domain ∷ domains) r = telling_after (domain_microframe dom
 
 -- from detail 2 on the number of a microframe is said
 abbrev pub number_said : ℕ → ℕ → List Said
-number_said detail time = if nat_le 2 detail then says_time time ∷ [] else []
+number_said detail time = if nat_le 2 detail then says_microframe time ∷ [] else []
 
 -- what happens to the streams, in the running world
 abbrev pub of_streams : (StreamingWorld → Telling StreamingWorld) → RunningWorld → Telling RunningWorld
@@ -94,15 +94,15 @@ unfoldable pub packets_and_ticks : List PhraseMark → RunningWorld → Telling 
 packets_and_ticks marks r =
     followed_by (of_streams (out_packets r.detail marks)) (followed_by (of_streams (in_packets r.detail marks)) all_domains) r
 
-unfoldable pub ends_and_reports : List PhraseMark → RunningWorld → Telling RunningWorld
-ends_and_reports marks r = followed_by (of_streams (all_settled r.detail)) (of_streams (all_reported r.detail marks)) r
+unfoldable pub ends_and_feedback : List PhraseMark → RunningWorld → Telling RunningWorld
+ends_and_feedback marks r = followed_by (of_streams (all_ends r.detail)) (of_streams (all_feedback r.detail marks)) r
 
 -- one microframe: from detail 2 on its number is said first
 unfoldable pub microframe : List PhraseMark → RunningWorld → Telling RunningWorld
 microframe marks r =
     let time = at_most_u64 (r.time + 1) in
     telling_after (number_said r.detail time)
-    (followed_by (packets_and_ticks marks) (ends_and_reports marks) (record r { time = time }))
+    (followed_by (packets_and_ticks marks) (ends_and_feedback marks) (record r { time = time }))
 
 -- so many microframes, with these losses in each
 unfoldable pub microframes : List PhraseMark → ℕ → RunningWorld → Telling RunningWorld

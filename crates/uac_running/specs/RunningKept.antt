@@ -7,16 +7,16 @@ use Rattle.uac_device.specs.DeviceWorld.{is_input_jack}
 use Rattle.uac_graph.specs.Meaning.{entity}
 use Rattle.uac_transcript.specs.Printing.{Prints}
 use Rattle.uac_running.specs.declared.jacks.Jack.{Jack}
-use Rattle.uac_report.specs.declared.counts.TickCount.{TickCount}
+use Rattle.uac_running.specs.declared.counts.TickCount.{TickCount}
 use Rattle.uac_streaming.specs.StreamingKept as streaming
 use Rattle.uac_streaming.specs.StreamingKept.{StreamingFields}
 use Rattle.uac_streaming.specs.Room.{HaveRoom}
-use Rattle.uac_mixer.specs.ViewWorld.{ViewWorld}
+use Rattle.uac_mixer.specs.ViewWorld.{IsViewOf, ViewWorld}
 use Rattle.uac_mixer.specs.declared.link.When.{When}
 use Rattle.uac_running.specs.RunningWorld.{RunningWorld, streaming_of}
 use Rattle.uac_streaming.specs.Telling.{Telling}
-use Rattle.uac_report.specs.TickCounts.{tick_count_of}
-use Rattle.uac_configuration.specs.Configuration.{configuration_of}
+use Rattle.uac_running.specs.TickCounts.{tick_count_of}
+use Rattle.uac_topology.specs.Configuration.{configuration_of}
 
 -- what a running device is seen as: of a domain's steps it keeps how many ticks they are
 pub record RunningFields : Type 0 where
@@ -59,6 +59,10 @@ pub record HasItsJacks (running : RunningFields) : Type 0 where
 pub record HasItsDomains (running : RunningFields) : Type 0 where
   pub counted : map (λ c. c.domain) running.counts ≡ running.device.function.domains
   pub once : IsDistinct nat_eq (map (λ c. c.domain) running.counts)
+
+-- what holds of every running device: its jacks and its domains are its own, and its view is one of its function
+abbrev pub HasItsOwn : RunningFields → Type 0
+HasItsOwn running = HasItsJacks running × HasItsDomains running × IsViewOf running.device.function.entities running.view
 
 -- what was told was printed: all of it, and what is kept stands for its world, within a microframe or between two; or at an error a front
 -- of it

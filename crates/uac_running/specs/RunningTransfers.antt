@@ -4,7 +4,7 @@ use Rattle.std.specs.Prelude.{◌≡◌, ℕ, ◌&&◌, not, Bool, true, false, 
 use Rattle.std.specs.Prelude.{None, Some, is_some, unwrap_or, Result, Ok, Err}
 use Rattle.std.specs.List.{find}
 use Rattle.std.specs.Str.{bytes_eq}
-use Rattle.uac_configuration.specs.Configuration.{configuration_of}
+use Rattle.uac_topology.specs.Configuration.{configuration_of}
 use Rattle.uac_store.specs.Keyed.{value_of}
 use Rattle.uac_request.specs.Requests.{AnswerFields, request_state, reply_of, value_bytes, sets_interface}
 use Rattle.uac_request.specs.Requests.{with_bytes, with_descriptor, is_done, is_stalled, is_done_answer}

@@ -13,14 +13,14 @@ use Rattle.uac_streaming.specs.Telling.{Telling}
 use Rattle.uac_running.specs.Events.{followed_by, of_streams}
 
 -- a tone is more than silence
-abbrev pub sounds : Tone → Bool
-sounds tones.Silent = false
-sounds (tones.Ramp start step) = true
-sounds (tones.Noise seed) = true
+abbrev pub is_audible : Tone → Bool
+is_audible tones.Silent = false
+is_audible (tones.Ramp start step) = true
+is_audible (tones.Noise seed) = true
 
 -- of these jacks one of a domain sounds
-abbrev pub one_sounds : ℕ → List Jack → Bool
-one_sounds domain jacks = list_any (λ j. j.domain == domain && sounds j.tone) jacks
+abbrev pub one_is_audible : ℕ → List Jack → Bool
+one_is_audible domain jacks = list_any (λ j. j.domain == domain && is_audible j.tone) jacks
 
 -- a jack gave silence last, if it is of a domain
 abbrev pub GaveSilence : ℕ → DeviceWorld → Jack → Type 0
@@ -28,7 +28,7 @@ GaveSilence domain w j = j.domain ≡ domain → w.given j.terminal ≡ silence 
 
 -- each of a domain is silent, and gave silence last
 pub record AreAtRest (domain : ℕ) (jacks : List Jack) (w : DeviceWorld) : Type 0 where
-  pub silent : one_sounds domain jacks ≡ false
+  pub silent : one_is_audible domain jacks ≡ false
   pub gave : All (GaveSilence domain w) jacks
 
 -- the packets of a microframe: those to the device, and those from it

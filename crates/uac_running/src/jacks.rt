@@ -77,16 +77,16 @@ fn jack_with_tone(jack: Jack, terminal: u8, tone: Tone) -> Jack
 }
 
 /// Whether a jack of a domain gives more than silence.
-pub(crate) fn one_sounds(jacks: &[Jack], domain: u8) -> bool
-    ensures { result ≡ silence.one_sounds domain jacks.now }
+pub(crate) fn one_is_audible(jacks: &[Jack], domain: u8) -> bool
+    ensures { result ≡ silence.one_is_audible domain jacks.now }
 {
     jacks
         .iter()
-        .any(|jack| jack.domain == domain && sounds(jack.tone))
+        .any(|jack| jack.domain == domain && is_audible(jack.tone))
 }
 
-fn sounds(tone: Tone) -> bool
-    ensures { result ≡ silence.sounds tone }
+fn is_audible(tone: Tone) -> bool
+    ensures { result ≡ silence.is_audible tone }
 {
     match tone {
         Tone::Silent => false,
@@ -152,7 +152,7 @@ fn give_jack(device: &mut Device, jack: &mut Jack, domain: u8)
     ensures function { device.new.function ≡ device.old.function }
 {
     if jack.domain == domain {
-        device.sound(jack.terminal, jack.tone, jack.place);
+        device.give_tone(jack.terminal, jack.tone, jack.place);
         jack.place = jack.place.saturating_add(1);
     }
 }

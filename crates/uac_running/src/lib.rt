@@ -1,6 +1,13 @@
 //! A running device, the host that streams to and from it, and the tones of its jacks: microframes, what they print, and the report.
 #![tactic(auto)]
 
+/// What is counted for the report.
+mod counts;
+/// Printing what output jacks played.
+mod printing;
+/// Printing the report.
+mod report;
+
 /// The jacks' tones.
 mod jacks;
 /// The microframes of a running device.
@@ -12,8 +19,8 @@ mod running;
 /// Control transfers and the host's view.
 mod transfers;
 
+pub use counts::TickCount;
 pub use jacks::Jack;
 pub use naming::{all_name_streams, are_frames, has_out};
 pub use running::Running;
-pub use uac_report::TickCount;
 pub use uac_ring::StreamCounts;

@@ -9,32 +9,33 @@ ghost use Rattle.uac_device.specs.DeviceKept as device;
 ghost use Rattle.uac_device.specs.DeviceWorld.{DeviceWorld, ZerosFitIn, after_advance, met_of, next_ticks};
 ghost use Rattle.uac_device.specs.Stillness.{IsStill};
 ghost use Rattle.uac_transcript.specs.Printing.{Prints};
-ghost use Rattle.uac_streaming.specs.StreamingWorld.{all_reported, all_settled, found_lines, in_packets, out_packets};
+ghost use Rattle.uac_streaming.specs.StreamingWorld.{all_feedback, all_ends, found_lines, in_packets, out_packets};
 ghost use Rattle.uac_running.specs.RunningWorld.{RunningWorld};
-ghost use Rattle.uac_report.specs.ReportLines.{played_lines};
-ghost use Rattle.uac_running.specs.Events.{after_all_jacks, domain_microframe, domain_microframes, ends_and_reports, microframe};
+ghost use Rattle.uac_running.specs.ReportLines.{played_lines};
+ghost use Rattle.uac_running.specs.Events.{after_all_jacks, domain_microframe, domain_microframes, ends_and_feedback, microframe};
 ghost use Rattle.uac_running.specs.Events.{microframes};
 ghost use Rattle.uac_running.specs.Events.{number_said, of_streams, packets_and_ticks, tick, tick_times};
 ghost use Rattle.uac_running.specs.RunningKept.{RunningStands, RunningStandsBetween, RunningTells, RunningTellsBetween};
 ghost use Rattle.uac_running.specs.Silence.{AreAtRest, packets};
 ghost use Rattle.uac_running.specs.Silence as silence;
 
-use crate::jacks::{next_frames, one_sounds};
+use crate::counts::count_ticks;
+use crate::jacks::{next_frames, one_is_audible};
+use crate::printing::write_jacks;
 use crate::running::Running;
 use uac_device::Ticked;
 use uac_edges::{Failed, Sink};
 use uac_graph::laws::fresh_steps_have_room;
-use uac_report::{count_ticks, write_jacks};
 use uac_script::Mark;
 use uac_streaming::write_found;
 use uac_topology::laws::{functions_are_sound, interfaces_are_numbered};
-use uac_transcript::write_time;
+use uac_transcript::write_microframe;
 use uac_units::{Meter, Meters, Rack, Steps, Unit};
 
 /// What of a domain rests at a tick: its jacks, where each is silent and gave silence last, and its streams, where none runs and the
 /// terminals of the bus gave silence last.
 #[derive(Clone, Copy)]
-struct Rest {
+struct Resting {
     jacks: bool,
     device_streams: bool,
 }
@@ -85,7 +86,7 @@ impl Running {
         self.pass();
         self.write_number(sink)?;
         self.packets_and_ticks(marks, rack, meters, sink)?;
-        self.ends_and_reports(marks, sink)
+        self.ends_and_feedback(marks, sink)
     }
 
     /// The packets of a microframe, and the ticks of each domain.
@@ -122,18 +123,18 @@ impl Running {
 
     /// The end of a microframe for each stream, and the feedback reports; nothing happens where no stream runs. Where a packet was lost,
     /// its ring has room for the zeros.
-    fn ends_and_reports<K: Sink>(&mut self, marks: &[Mark], sink: &mut K) -> Result<(), Failed>
+    fn ends_and_feedback<K: Sink>(&mut self, marks: &[Mark], sink: &mut K) -> Result<(), Failed>
         ensures tells { (meters : List Reading) (r : RunningWorld) → RunningStands self.old meters r
             → ((interface : ℕ) → ZerosFitIn r.device interface)
-            → RunningTells (ends_and_reports (map phrase_mark marks.now) r) self.new meters (K.written sink.old) (K.written sink.new)
+            → RunningTells (ends_and_feedback (map phrase_mark marks.now) r) self.new meters (K.written sink.old) (K.written sink.new)
             result }
         ensures cause { HasCause (K.faults sink.old) (K.faults sink.new) result }
     {
         if !self.device.runs() {
             return Ok(());
         }
-        self.settle(sink)?;
-        self.reports(marks, sink)
+        self.end_microframe(sink)?;
+        self.give_feedback(marks, sink)
     }
 
     /// The packets to the device.
@@ -159,24 +160,25 @@ impl Running {
     }
 
     /// The end of the microframe for each stream.
-    fn settle<K: Sink>(&mut self, sink: &mut K) -> Result<(), Failed>
+    fn end_microframe<K: Sink>(&mut self, sink: &mut K) -> Result<(), Failed>
         ensures tells { (meters : List Reading) (r : RunningWorld) → RunningStands self.old meters r
             → ((interface : ℕ) → ZerosFitIn r.device interface)
-            → RunningTells (of_streams (all_settled r.detail) r) self.new meters (K.written sink.old) (K.written sink.new) result }
+            → RunningTells (of_streams (all_ends r.detail) r) self.new meters (K.written sink.old) (K.written sink.new) result }
         ensures cause { HasCause (K.faults sink.old) (K.faults sink.new) result }
     {
-        self.streaming.settle(&mut self.device, self.detail, sink)
+        self.streaming
+            .end_microframe(&mut self.device, self.detail, sink)
     }
 
     /// The feedback reports.
-    fn reports<K: Sink>(&mut self, marks: &[Mark], sink: &mut K) -> Result<(), Failed>
+    fn give_feedback<K: Sink>(&mut self, marks: &[Mark], sink: &mut K) -> Result<(), Failed>
         ensures tells { (meters : List Reading) (r : RunningWorld) → RunningStands self.old meters r
-            → RunningTells (of_streams (all_reported r.detail (map phrase_mark marks.now)) r) self.new meters
+            → RunningTells (of_streams (all_feedback r.detail (map phrase_mark marks.now)) r) self.new meters
             (K.written sink.old) (K.written sink.new) result }
         ensures cause { HasCause (K.faults sink.old) (K.faults sink.new) result }
     {
         self.streaming
-            .reports(&self.device, self.detail, marks, sink)
+            .give_feedback(&self.device, self.detail, marks, sink)
     }
 
     /// One microframe more has come.
@@ -192,7 +194,7 @@ impl Running {
         ensures cause { HasCause (K.faults sink.old) (K.faults sink.new) result }
     {
         if self.detail >= 2 {
-            return write_time(sink, self.time);
+            return write_microframe(sink, self.time);
         }
         Ok(())
     }
@@ -280,15 +282,15 @@ impl Running {
         ensures cause { HasCause (K.faults sink.old) (K.faults sink.new) result }
         ensures function { self.new.device.function ≡ self.old.device.function }
     {
-        let silent = !one_sounds(&self.jacks, domain);
+        let silent = !one_is_audible(&self.jacks, domain);
         let still = !self.device.runs();
-        let mut rest = Rest {
+        let mut rest = Resting {
             jacks: false,
             device_streams: false,
         };
         for _ticked in 0..count {
             self.tick(rest, domain, rack, meters, sink)?;
-            rest = Rest {
+            rest = Resting {
                 jacks: silent,
                 device_streams: still,
             };
@@ -299,7 +301,7 @@ impl Running {
     /// One tick of a domain, whose jacks and streams may rest.
     fn tick<K: Sink>(
         &mut self,
-        rest: Rest,
+        rest: Resting,
         domain: u8,
         rack: &Rack,
         meters: &mut Meters,
@@ -311,18 +313,18 @@ impl Running {
             → RunningTells (tick domain r) self.new (readings (λ v x. (⟦<dyn Meter as Meter>⟧ v).reading_of x) meters.new)
             (K.written sink.old) (K.written sink.new) result }
         ensures rests { (meters : List Reading) (r : RunningWorld) → RunningStands self.old meters r
-            → silence.one_sounds domain r.jacks ≡ false
+            → silence.one_is_audible domain r.jacks ≡ false
             → AreAtRest domain (tick domain r).world.jacks (tick domain r).world.device }
         ensures cause { HasCause (K.faults sink.old) (K.faults sink.new) result }
         ensures function { self.new.device.function ≡ self.old.device.function }
     {
-        let found = self.sound(rest, domain, rack, meters);
+        let found = self.tick_device(rest, domain, rack, meters);
         self.show(domain, found, sink)
     }
 
     /// The jacks of a domain give their next frames, unless they rest, the device ticks, and the meters hear its output jacks. The renders
     /// are counted, and what rings were found empty and full. Answers which: none where the domain's streams rest.
-    fn sound(&mut self, rest: Rest, domain: u8, rack: &Rack, meters: &mut Meters) -> Ticked
+    fn tick_device(&mut self, rest: Resting, domain: u8, rack: &Rack, meters: &mut Meters) -> Ticked
         requires rack { IsFitted (λ v x. (⟦<dyn Unit as Unit>⟧ v).kind_of x) rack.now }
         ensures stands { (r : RunningWorld)
             → RunningStands self.old (readings (λ v x. (⟦<dyn Meter as Meter>⟧ v).reading_of x) meters.old) r
@@ -332,7 +334,7 @@ impl Running {
             → (rest.jacks ≡ true → AreAtRest domain r.jacks r.device) → (rest.device_streams ≡ true → IsStill domain r.device)
             → result ≡ met_of domain (after_all_jacks domain r) }
         ensures rests { (meters : List Reading) (r : RunningWorld) → RunningStands self.old meters r
-            → silence.one_sounds domain r.jacks ≡ false
+            → silence.one_is_audible domain r.jacks ≡ false
             → AreAtRest domain (tick domain r).world.jacks (tick domain r).world.device }
         ensures function { self.new.device.function ≡ self.old.device.function }
         ensures detail { self.new.detail ≡ self.old.detail }
@@ -344,7 +346,7 @@ impl Running {
             .device
             .tick_where(rest.device_streams, domain, rack, meters, &mut steps);
         self.renders = self.renders.saturating_add(steps.count());
-        self.streaming.find(self.device.function(), found);
+        self.streaming.count_met(self.device.function(), found);
         found
     }
 

@@ -11,15 +11,17 @@ ghost use Rattle.uac_running.specs.RunningWorld as spec;
 ghost use Rattle.uac_transcript.specs.Printing.{Prints};
 ghost use Rattle.uac_transcript.specs.Transcript.{spelling_of};
 ghost use Rattle.uac_running.specs.RunningLines.{ready_line, report_lines};
-ghost use Rattle.uac_configuration.specs.Configuration.{configuration_of};
+ghost use Rattle.uac_topology.specs.Configuration.{configuration_of};
 ghost use Rattle.uac_running.specs.RunningKept.{RunningStandsBetween};
-ghost use Rattle.uac_report.specs.TickCounts.{none_counted};
+ghost use Rattle.uac_running.specs.TickCounts.{none_counted};
 ghost use Rattle.uac_device.specs.DeviceKept as kept;
 ghost use Rattle.uac_device.specs.DeviceWorld.{fresh, is_input_jack};
 ghost use Rattle.uac_streaming.specs.StreamingKept as streams;
 ghost use Rattle.uac_streaming.specs.StreamingWorld.{streaming_start};
 
+use crate::counts::{TickCount, no_ticks};
 use crate::jacks::{Jack, set_tone, silent_jacks};
+use crate::report::{write_head, write_rest};
 use std::alloc::Global;
 use std::marker::Model;
 use uac_descriptor::{ByteList, NoMemory};
@@ -27,7 +29,6 @@ use uac_device::Device;
 use uac_edges::{Failed, Sink};
 use uac_mixer::{View, When, fresh_viewed};
 use uac_pcm::Tone;
-use uac_report::{TickCount, no_ticks, write_head, write_rest};
 use uac_streaming::Streaming;
 use uac_topology::Function;
 use uac_topology::laws::functions_are_sound;
@@ -52,8 +53,7 @@ pub struct Running {
 }
 
 impl Model for Running {
-    ghost use Rattle.uac_mixer.specs.ViewWorld.{IsViewOf};
-    ghost use Rattle.uac_running.specs.RunningKept.{RunningFields, HasItsDomains, HasItsJacks};
+    ghost use Rattle.uac_running.specs.RunningKept.{RunningFields, HasItsOwn};
 
     ghost Value = { RunningFields };
 
@@ -70,7 +70,7 @@ impl Model for Running {
       renders = p.renders;
     } };
 
-    ghost invariant = { λ p. HasItsJacks
+    ghost invariant = { λ p. HasItsOwn
         (record {
           device = p.device;
           streaming = p.streaming;
@@ -82,21 +82,7 @@ impl Model for Running {
           time = p.time;
           detail = p.detail;
           renders = p.renders;
-        })
-        × HasItsDomains
-        (record {
-          device = p.device;
-          streaming = p.streaming;
-          view = p.view;
-          configuration = p.configuration;
-          breaks = p.breaks;
-          jacks = p.jacks.items;
-          counts = p.counts.items;
-          time = p.time;
-          detail = p.detail;
-          renders = p.renders;
-        })
-        × IsViewOf p.device.function.entities p.view };
+        }) };
 }
 
 impl Running {

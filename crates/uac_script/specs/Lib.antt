@@ -8,3 +8,4 @@ pub mod LineParsing
 pub mod Saying
 -- What the contracts below them cite: steps of the code, no part of what is promised.
 pub mod Lent
+pub mod LineRules

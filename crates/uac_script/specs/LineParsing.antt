@@ -5,7 +5,6 @@ use Rattle.std.specs.Prelude.{Option, Some, None, is_some, unwrap_or, Result, Ok
 use Rattle.std.specs.List.{list_all}
 use Rattle.std.specs.Option.{option_map, option_and_then}
 use Rattle.std.specs.Str.{bytes_eq}
-use Rattle.uac_pcm.specs.declared.tones.Tone.{Tone}
 use Rattle.uac_script.specs.declared.line.MarkKind.{MarkKind}
 use Rattle.uac_script.specs.declared.line.MarkKind.TheVariants.{Out, In, Feedback}
 use Rattle.uac_script.specs.declared.line.Line.{Line}
@@ -18,7 +17,7 @@ use Rattle.uac_script.specs.Phrase.{Phrase, nothing_line, bytes_line, go_line, c
 use Rattle.uac_script.specs.Phrase.{append_line, track_line, jack_line, deviate_line, microframes_line, detail_line, report_line}
 use Rattle.uac_script.specs.Phrase.{is_tone_in_range}
 use Rattle.uac_script.specs.Phrase.{is_in_range}
-use Rattle.uac_script.specs.Line.{phrase_of, phrase_tone_of}
+use Rattle.uac_script.specs.Line.{phrase_of}
 
 -- this, where no word is left
 abbrev pub when_empty : {A : Type 0} → A → List Word → Option A
@@ -168,14 +167,6 @@ answer text = if is_idle text then Ok nothing_line else answer_of (words_of text
 abbrev pub phrase_result : Result Line ℕ → Result Phrase ℕ
 phrase_result (Ok line) = Ok (phrase_of line)
 phrase_result (Err rule) = Err rule
-
-abbrev pub tone_result : Result Tone ℕ → Result PhraseTone ℕ
-tone_result (Ok tone) = Ok (phrase_tone_of tone)
-tone_result (Err rule) = Err rule
-
-abbrev pub signal_result : Result (ℕ × Tone) ℕ → Result (ℤ × PhraseTone) ℕ
-signal_result (Ok signal) = Ok (pos signal.0, phrase_tone_of signal.1)
-signal_result (Err rule) = Err rule
 
 -- the samples of these words: each in range, or nothing
 abbrev pub samples_of : List Word → Option (List ℤ)

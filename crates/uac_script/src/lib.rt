@@ -17,10 +17,12 @@ mod owned;
 mod parsing;
 /// The rows of the table of lines.
 mod rows;
+/// The rules that a line's words break, by name.
+mod rule;
 
 pub use lent::{LentLine, LineRoom};
 pub use line::{Line, Mark, MarkKind, Name};
-pub use marks::{loses_in, loses_out, loses_report};
+pub use marks::{loses_feedback, loses_in, loses_out};
 pub use parsing::is_idle;
 pub use uac_edges::{
     Failed, MemorySink, MemorySource, Sink, Source, StdSink, StdSource, SteadySource, TextLine,

@@ -16,7 +16,7 @@ pub enum MarkKind {
     Feedback,
 }
 
-/// A packet or a report that is lost in each microframe of a line.
+/// A packet or a feedback report that is lost in each microframe of a line.
 #[derive(Clone, Copy, Debug, Default, PartialEq, Eq)]
 pub struct Mark {
     pub kind: MarkKind,
@@ -89,6 +89,7 @@ impl Line {
     ///
     /// The number of the first rule that the text breaks: 2 where its first word is none of the table's, 3 where its
     /// words aren't as in the table or a number is spelt otherwise, 4 where a number is out of its range.
+    /// Tests alone call it: the program reads a `LentLine`.
     pub fn read(text: &[u8]) -> Result<Line, u8>
         requires { length text.now ≤ 4096 }
         // By the table of spellings alone; `laws::each_line_says_one_thing` tells that a text says one thing.

@@ -8,11 +8,12 @@ ghost use Rattle.uac_lines.specs.Ranges.{is_id};
 ghost use Rattle.uac_script.specs.LineParsing.{verdict_of, append_line_of, microframes_line_of, samples_of, mark_kind_of, is_mark, mark_of};
 ghost use Rattle.uac_script.specs.Phrase.{are_marks_in_range};
 ghost use Rattle.uac_script.specs.Line.{phrase_mark};
-ghost use Rattle.uac_script.specs.Lent.{lent_phrase_result, Fits};
+ghost use Rattle.uac_script.specs.Lent.{Fits};
+ghost use Rattle.uac_script.specs.LineRules.{row_result};
 
 use crate::lent::LentLine;
 use crate::line::{Mark, MarkKind};
-use crate::rows::{MISSPELT, OUT_OF_RANGE};
+use crate::rule::LineRule;
 use arrayvec::ArrayVec;
 use uac_lines::numbers::{id, is_number, signed_number, within};
 use uac_lines::words::Words;
@@ -47,23 +48,23 @@ fn samples<'a>(mut words: Words<'_>, samples: &'a mut ArrayVec<i32, 2048>) -> Op
 pub fn append<'a>(
     mut words: Words<'_>,
     room: &'a mut ArrayVec<i32, 2048>,
-) -> Result<LentLine<'a>, u8>
+) -> Result<LentLine<'a>, LineRule>
     requires { bytes_left words.rest ≤ 4096 }
-    ensures says { lent_phrase_result result ≡ verdict_of (append_line_of (words_left words.entry.rest)) }
+    ensures says { row_result result ≡ verdict_of (append_line_of (words_left words.entry.rest)) }
     ensures fits { IfOk result Fits }
 {
     let Some(interface) = words.take() else {
-        return Err(MISSPELT);
+        return Err(LineRule::Misspelt);
     };
     if words.is_empty() || !is_number(interface) || !are_numbers(words) {
-        return Err(MISSPELT);
+        return Err(LineRule::Misspelt);
     }
     let Some(interface) = id(interface) else {
-        return Err(OUT_OF_RANGE);
+        return Err(LineRule::OutOfRange);
     };
     match samples(words, room) {
         Some(samples) => Ok(LentLine::Append { interface, samples }),
-        None => Err(OUT_OF_RANGE),
+        None => Err(LineRule::OutOfRange),
     }
 }
 
@@ -132,24 +133,27 @@ fn marks<'a>(mut words: Words<'_>, marks: &'a mut ArrayVec<Mark, 24>) -> Option<
 }
 
 /// Microframes, and what is lost in each of them.
-pub fn run<'a>(mut words: Words<'_>, room: &'a mut ArrayVec<Mark, 24>) -> Result<LentLine<'a>, u8>
-    ensures says { lent_phrase_result result ≡ verdict_of (microframes_line_of (words_left words.entry.rest)) }
+pub fn run<'a>(
+    mut words: Words<'_>,
+    room: &'a mut ArrayVec<Mark, 24>,
+) -> Result<LentLine<'a>, LineRule>
+    ensures says { row_result result ≡ verdict_of (microframes_line_of (words_left words.entry.rest)) }
     ensures fits { IfOk result Fits }
 {
     let Some(count) = words.take() else {
-        return Err(MISSPELT);
+        return Err(LineRule::Misspelt);
     };
     if !is_number(count) || !are_marks(words) {
-        return Err(MISSPELT);
+        return Err(LineRule::Misspelt);
     }
     let Some(count) = within(count, 1, 8_000) else {
-        return Err(OUT_OF_RANGE);
+        return Err(LineRule::OutOfRange);
     };
     match marks(words, room) {
         Some(marks) => Ok(LentLine::Run {
             count: count as u32,
             marks,
         }),
-        None => Err(OUT_OF_RANGE),
+        None => Err(LineRule::OutOfRange),
     }
 }

@@ -1,4 +1,4 @@
-// Which packets and reports are lost.
+// Which packets and feedback reports are lost.
 ghost use Rattle.std.specs.Prelude.{◌≡◌, map};
 ghost use Rattle.uac_script.specs.Line.{phrase_mark};
 ghost use Rattle.uac_script.specs.Losses as spec;
@@ -23,13 +23,11 @@ pub fn loses_in(marks: &[Mark], interface: u8) -> bool
         .any(|mark| is_in(mark.kind) && mark.interface == interface)
 }
 
-/// Whether the report of an interface is lost.
-pub fn loses_report(marks: &[Mark], interface: u8) -> bool
-    ensures { result ≡ spec.loses_report (map phrase_mark marks.now) interface }
+/// Whether the feedback report of an interface is lost.
+pub fn loses_feedback(marks: &[Mark], interface: u8) -> bool
+    ensures { result ≡ spec.loses_feedback (map phrase_mark marks.now) interface }
 {
-    marks
-        .iter()
-        .any(|mark| is_report(mark.kind) && mark.interface == interface)
+    marks.iter().any(|mark| is_feedback(mark.kind) && mark.interface == interface)
 }
 
 fn is_out(kind: MarkKind) -> bool
@@ -52,8 +50,8 @@ fn is_in(kind: MarkKind) -> bool
     }
 }
 
-fn is_report(kind: MarkKind) -> bool
-    ensures { result ≡ spec.marks_report kind }
+fn is_feedback(kind: MarkKind) -> bool
+    ensures { result ≡ spec.marks_feedback kind }
 {
     match kind {
         MarkKind::Out => false,

@@ -3,51 +3,47 @@ ghost use Rattle.std.specs.Prelude.{◌≡◌, ◌≤◌, length, IsTrue, IfSome
 ghost use Rattle.std.specs.Option.{option_copied, option_and_then};
 ghost use Rattle.uac_lines.specs.Words.{words_left, bytes_left};
 ghost use Rattle.uac_lines.specs.WordParsing.{only_of, pair_of};
-ghost use Rattle.uac_script.specs.LineParsing.{tone_result, signal_result, verdict_of, tone_verdict, signal_verdict, name_in, when_empty};
+ghost use Rattle.uac_script.specs.LineParsing.{verdict_of, tone_verdict, signal_verdict, name_in, when_empty};
 ghost use Rattle.uac_script.specs.LineParsing.{bytes_line_of, control_line_of, element_line_of, break_line_of, tone_read, signal_of};
 ghost use Rattle.uac_script.specs.LineParsing.{track_line_of, jack_line_of, deviate_line_of, detail_line_of, set_line_of, sent_of, ramp_of};
 ghost use Rattle.uac_script.specs.LineParsing.{from_number};
 ghost use Rattle.uac_script.specs.Phrase.{silent, noise_tone, is_in_range};
-ghost use Rattle.uac_script.specs.Lent.{lent_phrase, lent_phrase_result, Fits};
+ghost use Rattle.uac_script.specs.Lent.{lent_phrase, Fits};
+ghost use Rattle.uac_script.specs.LineRules.{row_result, tone_result, signal_result};
 
 use crate::lent::LentLine;
+use crate::rule::LineRule;
 use uac_lines::hex_bytes::{bytes, setup};
 use uac_lines::numbers::{id, is_number, signed_number, within};
 use uac_lines::words::Words;
 use uac_pcm::Tone;
 
-/// Rule S3: the words aren't as in the table.
-pub const MISSPELT: u8 = 3;
-
-/// Rule S4: a number is out of range.
-pub const OUT_OF_RANGE: u8 = 4;
-
 /// A line that has no word but its first.
-pub fn alone<'a>(line: LentLine<'a>, words: Words<'_>) -> Result<LentLine<'a>, u8>
+pub fn alone<'a>(line: LentLine<'a>, words: Words<'_>) -> Result<LentLine<'a>, LineRule>
     requires range { IsTrue (is_in_range (lent_phrase line)) }
     requires room { Fits line }
-    ensures says { lent_phrase_result result ≡ (verdict_of (when_empty (lent_phrase line.entry) (words_left words.entry.rest))) }
+    ensures says { row_result result ≡ (verdict_of (when_empty (lent_phrase line.entry) (words_left words.entry.rest))) }
     ensures fits { IfOk result Fits }
 {
     if words.is_empty() {
         Ok(line)
     } else {
-        Err(MISSPELT)
+        Err(LineRule::Misspelt)
     }
 }
 
 /// The next bytes of the descriptor.
-pub fn feed<'a>(words: Words<'_>, room: &'a mut [u8; 2048]) -> Result<LentLine<'a>, u8>
+pub fn feed<'a>(words: Words<'_>, room: &'a mut [u8; 2048]) -> Result<LentLine<'a>, LineRule>
     requires { bytes_left words.rest ≤ 4097 }
-    ensures says { lent_phrase_result result ≡ verdict_of (bytes_line_of (words_left words.entry.rest)) }
+    ensures says { row_result result ≡ verdict_of (bytes_line_of (words_left words.entry.rest)) }
     ensures fits { IfOk result Fits }
 {
     let Some(digits) = words.only() else {
-        return Err(MISSPELT);
+        return Err(LineRule::Misspelt);
     };
     match bytes(digits, room) {
         Some(bytes) => Ok(LentLine::Bytes(bytes)),
-        None => Err(MISSPELT),
+        None => Err(LineRule::Misspelt),
     }
 }
 
@@ -65,20 +61,20 @@ fn bytes_sent<'a>(words: Words<'_>, room: &'a mut [u8; 2048]) -> Option<&'a [u8]
 }
 
 /// A control transfer.
-pub fn control<'a>(mut words: Words<'_>, room: &'a mut [u8; 2048]) -> Result<LentLine<'a>, u8>
+pub fn control<'a>(mut words: Words<'_>, room: &'a mut [u8; 2048]) -> Result<LentLine<'a>, LineRule>
     requires { bytes_left words.rest ≤ 4097 }
-    ensures says { lent_phrase_result result ≡ verdict_of (control_line_of (words_left words.entry.rest)) }
+    ensures says { row_result result ≡ verdict_of (control_line_of (words_left words.entry.rest)) }
     ensures fits { IfOk result Fits }
 {
     let Some(head) = words.take() else {
-        return Err(MISSPELT);
+        return Err(LineRule::Misspelt);
     };
     let Some(setup) = setup(head) else {
-        return Err(MISSPELT);
+        return Err(LineRule::Misspelt);
     };
     match bytes_sent(words, room) {
         Some(sent) => Ok(LentLine::Control { setup, sent }),
-        None => Err(MISSPELT),
+        None => Err(LineRule::Misspelt),
     }
 }
 
@@ -104,72 +100,72 @@ fn last_name(words: Words<'_>) -> Option<&[u8]>
 }
 
 // Sets an element, by its name and the value.
-fn set(words: Words<'_>) -> Result<LentLine<'_>, u8>
+fn set(words: Words<'_>) -> Result<LentLine<'_>, LineRule>
     requires { bytes_left words.rest ≤ 4097 }
-    ensures says { lent_phrase_result result ≡ verdict_of (option_and_then set_line_of (pair_of (words_left words.entry.rest))) }
+    ensures says { row_result result ≡ verdict_of (option_and_then set_line_of (pair_of (words_left words.entry.rest))) }
     ensures fits { IfOk result Fits }
 {
     let Some((word, numeral)) = words.pair() else {
-        return Err(MISSPELT);
+        return Err(LineRule::Misspelt);
     };
     if !is_number(numeral) {
-        return Err(MISSPELT);
+        return Err(LineRule::Misspelt);
     }
     let Some(name) = name(word) else {
-        return Err(MISSPELT);
+        return Err(LineRule::Misspelt);
     };
     match signed_number(numeral) {
         Some(value) => Ok(LentLine::Set(name, value)),
-        None => Err(OUT_OF_RANGE),
+        None => Err(LineRule::OutOfRange),
     }
 }
 
 /// Reads, sets or shows an element.
-pub fn element(mut words: Words<'_>) -> Result<LentLine<'_>, u8>
+pub fn element(mut words: Words<'_>) -> Result<LentLine<'_>, LineRule>
     requires { bytes_left words.rest ≤ 4097 }
-    ensures says { lent_phrase_result result ≡ verdict_of (element_line_of (words_left words.entry.rest)) }
+    ensures says { row_result result ≡ verdict_of (element_line_of (words_left words.entry.rest)) }
     ensures fits { IfOk result Fits }
 {
     let Some(verb) = words.take() else {
-        return Err(MISSPELT);
+        return Err(LineRule::Misspelt);
     };
     if verb == b"set".as_slice() {
         return set(words);
     }
     let get = verb == b"get".as_slice();
     if !get && verb != b"show".as_slice() {
-        return Err(MISSPELT);
+        return Err(LineRule::Misspelt);
     }
     match last_name(words) {
         Some(name) if get => Ok(LentLine::Get(name)),
         Some(name) => Ok(LentLine::Show(name)),
-        None => Err(MISSPELT),
+        None => Err(LineRule::Misspelt),
     }
 }
 
 /// The next transfer breaks.
-pub fn break_line_at<'a>(words: Words<'_>) -> Result<LentLine<'a>, u8>
-    ensures says { lent_phrase_result result ≡ verdict_of (break_line_of (words_left words.entry.rest)) }
+pub fn break_line_at<'a>(words: Words<'_>) -> Result<LentLine<'a>, LineRule>
+    ensures says { row_result result ≡ verdict_of (break_line_of (words_left words.entry.rest)) }
     ensures fits { IfOk result Fits }
 {
     let Some(word) = words.only() else {
-        return Err(MISSPELT);
+        return Err(LineRule::Misspelt);
     };
     if word == b"before".as_slice() {
         Ok(LentLine::Break { after: false })
     } else if word == b"after".as_slice() {
         Ok(LentLine::Break { after: true })
     } else {
-        Err(MISSPELT)
+        Err(LineRule::Misspelt)
     }
 }
 
 // The tone of a track or a jack.
-fn tone(mut words: Words<'_>) -> Result<Tone, u8>
+fn tone(mut words: Words<'_>) -> Result<Tone, LineRule>
     ensures { tone_result result ≡ tone_verdict (tone_read (words_left words.entry.rest)) }
 {
     let Some(kind) = words.take() else {
-        return Err(MISSPELT);
+        return Err(LineRule::Misspelt);
     };
     if kind == b"none".as_slice() {
         silence(words)
@@ -178,76 +174,76 @@ fn tone(mut words: Words<'_>) -> Result<Tone, u8>
     } else if kind == b"noise".as_slice() {
         noise(words)
     } else {
-        Err(MISSPELT)
+        Err(LineRule::Misspelt)
     }
 }
 
 // A tone of zeros has no numbers.
-fn silence(words: Words<'_>) -> Result<Tone, u8>
+fn silence(words: Words<'_>) -> Result<Tone, LineRule>
     ensures { tone_result result ≡ tone_verdict (when_empty silent (words_left words.entry.rest)) }
 {
     if words.is_empty() {
         Ok(Tone::Silent)
     } else {
-        Err(MISSPELT)
+        Err(LineRule::Misspelt)
     }
 }
 
 // A straight line has its start and its step.
-fn ramp(words: Words<'_>) -> Result<Tone, u8>
+fn ramp(words: Words<'_>) -> Result<Tone, LineRule>
     ensures { tone_result result ≡ tone_verdict (option_and_then ramp_of (pair_of (words_left words.entry.rest))) }
 {
     let Some((start, step)) = words.pair() else {
-        return Err(MISSPELT);
+        return Err(LineRule::Misspelt);
     };
     if !is_number(start) || !is_number(step) {
-        return Err(MISSPELT);
+        return Err(LineRule::Misspelt);
     }
     let Some(start) = signed_number(start) else {
-        return Err(OUT_OF_RANGE);
+        return Err(LineRule::OutOfRange);
     };
     let Some(step) = signed_number(step) else {
-        return Err(OUT_OF_RANGE);
+        return Err(LineRule::OutOfRange);
     };
     Ok(Tone::Ramp { start, step })
 }
 
 // Noise has its seed.
-fn noise(words: Words<'_>) -> Result<Tone, u8>
+fn noise(words: Words<'_>) -> Result<Tone, LineRule>
     ensures { tone_result result ≡ tone_verdict (option_and_then (from_number noise_tone) (only_of (words_left words.entry.rest))) }
 {
     let Some(seed) = words.only() else {
-        return Err(MISSPELT);
+        return Err(LineRule::Misspelt);
     };
     if !is_number(seed) {
-        return Err(MISSPELT);
+        return Err(LineRule::Misspelt);
     }
     match within(seed, 0, i64::from(u32::MAX)) {
         Some(seed) => Ok(Tone::Noise { seed: seed as u32 }),
-        None => Err(OUT_OF_RANGE),
+        None => Err(LineRule::OutOfRange),
     }
 }
 
 // An id and its tone.
-fn signal(mut words: Words<'_>) -> Result<(u8, Tone), u8>
+fn signal(mut words: Words<'_>) -> Result<(u8, Tone), LineRule>
     ensures { signal_result result ≡ signal_verdict (signal_of (words_left words.entry.rest)) }
 {
     let Some(word) = words.take() else {
-        return Err(MISSPELT);
+        return Err(LineRule::Misspelt);
     };
     if !is_number(word) {
-        return Err(MISSPELT);
+        return Err(LineRule::Misspelt);
     }
     let tone = tone(words)?;
     match id(word) {
         Some(id) => Ok((id, tone)),
-        None => Err(OUT_OF_RANGE),
+        None => Err(LineRule::OutOfRange),
     }
 }
 
 /// The tone of a track.
-pub fn track<'a>(words: Words<'_>) -> Result<LentLine<'a>, u8>
-    ensures says { lent_phrase_result result ≡ verdict_of (track_line_of (words_left words.entry.rest)) }
+pub fn track<'a>(words: Words<'_>) -> Result<LentLine<'a>, LineRule>
+    ensures says { row_result result ≡ verdict_of (track_line_of (words_left words.entry.rest)) }
     ensures fits { IfOk result Fits }
 {
     let (interface, tone) = signal(words)?;
@@ -255,8 +251,8 @@ pub fn track<'a>(words: Words<'_>) -> Result<LentLine<'a>, u8>
 }
 
 /// The tone of an input jack.
-pub fn jack<'a>(words: Words<'_>) -> Result<LentLine<'a>, u8>
-    ensures says { lent_phrase_result result ≡ verdict_of (jack_line_of (words_left words.entry.rest)) }
+pub fn jack<'a>(words: Words<'_>) -> Result<LentLine<'a>, LineRule>
+    ensures says { row_result result ≡ verdict_of (jack_line_of (words_left words.entry.rest)) }
     ensures fits { IfOk result Fits }
 {
     let (terminal, tone) = signal(words)?;
@@ -264,41 +260,41 @@ pub fn jack<'a>(words: Words<'_>) -> Result<LentLine<'a>, u8>
 }
 
 /// The deviation of a domain.
-pub fn deviate<'a>(words: Words<'_>) -> Result<LentLine<'a>, u8>
-    ensures says { lent_phrase_result result ≡ verdict_of (deviate_line_of (words_left words.entry.rest)) }
+pub fn deviate<'a>(words: Words<'_>) -> Result<LentLine<'a>, LineRule>
+    ensures says { row_result result ≡ verdict_of (deviate_line_of (words_left words.entry.rest)) }
     ensures fits { IfOk result Fits }
 {
     let Some((domain, ppm)) = words.pair() else {
-        return Err(MISSPELT);
+        return Err(LineRule::Misspelt);
     };
     if !is_number(domain) || !is_number(ppm) {
-        return Err(MISSPELT);
+        return Err(LineRule::Misspelt);
     }
     let Some(domain) = id(domain) else {
-        return Err(OUT_OF_RANGE);
+        return Err(LineRule::OutOfRange);
     };
     match within(ppm, -100_000, 100_000) {
         Some(ppm) => Ok(LentLine::Deviate {
             domain,
             ppm: ppm as i32,
         }),
-        None => Err(OUT_OF_RANGE),
+        None => Err(LineRule::OutOfRange),
     }
 }
 
 /// How much is printed.
-pub fn detail<'a>(words: Words<'_>) -> Result<LentLine<'a>, u8>
-    ensures says { lent_phrase_result result ≡ verdict_of (detail_line_of (words_left words.entry.rest)) }
+pub fn detail<'a>(words: Words<'_>) -> Result<LentLine<'a>, LineRule>
+    ensures says { row_result result ≡ verdict_of (detail_line_of (words_left words.entry.rest)) }
     ensures fits { IfOk result Fits }
 {
     let Some(level) = words.only() else {
-        return Err(MISSPELT);
+        return Err(LineRule::Misspelt);
     };
     if !is_number(level) {
-        return Err(MISSPELT);
+        return Err(LineRule::Misspelt);
     }
     match within(level, 0, 2) {
         Some(level) => Ok(LentLine::Detail(level as u8)),
-        None => Err(OUT_OF_RANGE),
+        None => Err(LineRule::OutOfRange),
     }
 }

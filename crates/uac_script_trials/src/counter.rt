@@ -6,8 +6,8 @@ ghost use Rattle.uac_script_trials.specs.Counting.{count_spell};
 
 use uac_edges::{Failed, Sink, TextLine, give_all};
 use uac_ends::LineFault;
+use uac_grammar_rules::GrammarFault;
 use uac_runner::LineMachine;
-use uac_sentence::GrammarFault;
 use uac_topology_rules::TopologyFault;
 
 /// Counts lines. There is memory for so many.

@@ -7,8 +7,8 @@ use uac_pcm::Frame;
 use uac_ring::{Arrival, StreamCounts};
 use uac_transcript::{
     write_broken, write_domain, write_done, write_feedback, write_frame, write_given, write_in,
-    write_in_stream, write_level, write_meter, write_out, write_out_stream, write_over,
-    write_passed, write_played, write_ready, write_renders, write_set, write_set_stalled,
+    write_in_stream, write_level, write_meter, write_microframe, write_out, write_out_stream,
+    write_over, write_played, write_ready, write_renders, write_set, write_set_stalled,
     write_stalled, write_steady, write_time, write_under, write_unknown, write_value,
     write_view_broken,
 };
@@ -62,7 +62,7 @@ fn write_lines(sink: &mut MemorySink) -> Result<(), Failed> {
         missed: 4,
     };
     write_ready(sink, 7, 2, 1)?;
-    write_time(sink, 18446744073709551615)?;
+    write_microframe(sink, 18446744073709551615)?;
     write_out(sink, 1, 6, Arrival::Taken)?;
     write_out(sink, 1, 7, Arrival::Lost)?;
     write_out(sink, 1, 5, Arrival::Over)?;
@@ -77,7 +77,7 @@ fn write_lines(sink: &mut MemorySink) -> Result<(), Failed> {
     write_feedback(sink, 1, 393216, false)?;
     write_feedback(sink, 1, 393213, true)?;
     write_transfers(sink)?;
-    write_passed(sink, 2)?;
+    write_time(sink, 2)?;
     write_steady(sink, false)?;
     write_domain(sink, 1, Some(48000), 12)?;
     write_out_stream(sink, 1, 1, 128, Some(130), met)?;

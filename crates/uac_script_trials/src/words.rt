@@ -32,6 +32,13 @@ fn takes_a_command_over_a_rack(rt: HostRuntime) -> Result<(), Fail> {
             Command::Gen(4294967295),
             RackChoice::Plain,
         ),
+        ("full 96000", Command::Full(96000), RackChoice::Plain),
+        (
+            "pair --rack lanes 192000",
+            Command::Pair(192000),
+            RackChoice::Lanes,
+        ),
+        ("panel --", Command::Panel, RackChoice::Plain),
     ];
     for (line, command, rack) in table {
         assert_eq!(rt;
@@ -48,7 +55,8 @@ fn refuses_all_other_words(rt: HostRuntime) -> Result<(), Fail> {
     let table = [
         "",
         "Check",
-        "panel",
+        "panels",
+        "panel 48000",
         "check check",
         "run 7",
         "check -- --",
@@ -69,6 +77,13 @@ fn refuses_all_other_words(rt: HostRuntime) -> Result<(), Fail> {
         "gen 0x1",
         "gen 4294967296",
         "gen 1 2",
+        "full",
+        "full 176400",
+        "full 048000",
+        "full 0",
+        "pair",
+        "pair 7",
+        "pair 48000 48000",
     ];
     for line in table {
         assert_eq!(rt; ask(rt.alloc(), line)?, Err(WordsFault::Usage), "{line}");

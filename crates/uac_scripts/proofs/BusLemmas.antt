@@ -11,10 +11,15 @@ use Rattle.uac_script.proofs.SayingLemmas.{each_says_once}
 use Rattle.uac_units.specs.Hearing.{Reading}
 use Rattle.uac_rows.specs.BusWorld.{BusWorld, start}
 use Rattle.uac_rows.specs.BusWorld as bus
-use Rattle.uac_bus.specs.After as bus_after
-use Rattle.uac_bus.specs.After.{said_step}
-use Rattle.uac_promises.specs.Promises.{IsAsPromised}
+use Rattle.uac_rows.specs.After as bus_after
+use Rattle.uac_rows.specs.After.{said_step}
+use Rattle.uac_promises.proofs.ScriptsStartLemmas.{feeds_bytes}
+use Rattle.uac_promises.specs.Promises.{IsAsPromised, IsOfBytes}
 use Rattle.uac_promises.proofs.PromisesLemmas.{all_scripts_keep_promises}
+use Rattle.uac_promises.proofs.PromisesBegunLemmas.{lines_begin_as_promised}
+use Rattle.uac_promises.proofs.PrintedTextLemmas.{texts_are_read_back}
+use Rattle.uac_transcript.specs.Spellings.{IsReadBack}
+use Rattle.uac_transcript.specs.Transcript.{Said}
 use Rattle.uac_ends.specs.Outcome.{End}
 use Rattle.uac_runner.specs.Machine.{After, and_then, after}
 use Rattle.uac_runner.specs.Done.{IsScriptLine, come_to}
@@ -22,9 +27,9 @@ use Rattle.uac_runner.specs.Fronts.{EachSteadyFront}
 use Rattle.uac_runner.specs.Transcript.{goes, transcript}
 use Rattle.uac_runner.proofs.ScriptLemmas.{after_said, and_then_same, script_lines, transcript_same}
 use Rattle.uac_runner.proofs.WholeLemmas.{transcript_stays}
-use Rattle.uac_scripts.specs.BusLaws.{HasOneTranscript, LinesAreSayings, RefusalStays, ScriptIsWhatItsLinesSay, lifted_after}
-use Rattle.uac_scripts.specs.BusMachine.{AreByTable, Sayings, bus_machine, lifted}
-use Rattle.uac_scripts.specs.BusRun.{IsSteadyIn}
+use Rattle.uac_scripts.specs.BusLaws.{HasOneTranscript, LinesAreSayings, RefusalStays, ScriptIsWhatItsLinesSay}
+use Rattle.uac_scripts.specs.BusMachine.{AreByTable, Sayings, bus_machine, lifted, lifted_after}
+use Rattle.uac_scripts.specs.BusRun.{EachBeginning, IsSteadyIn}
 
 -- ---- lines are what they say
 
@@ -41,6 +46,12 @@ after_lifted (said ∷ saids) w =
 
 pub lines_are_sayings : LinesAreSayings
 lines_are_sayings says texts w = after_said says (λ said v. lifted (said_step said v)) texts w ∙ after_lifted (map says texts) w
+
+-- and the text of what they print tells it
+pub printed_read_back : (says : Sayings) (texts : List (List ℕ)) (w : BusWorld) (lines : List Said)
+    → lines ≡ (after (bus_machine says).step texts w).lines → IsReadBack lines
+printed_read_back says texts w lines printed =
+    subst IsReadBack (sym (printed ∙ ap (λ (a : After _ _). a.lines) (lines_are_sayings says texts w))) (texts_are_read_back (map says texts) w)
 
 -- ---- what texts say by the table
 
@@ -77,9 +88,22 @@ refusal_stays says w taken more end other = transcript_stays (bus_machine says) 
 
 -- ---- what is promised
 
+-- what a text says is of bytes
+of_bytes : (says : Sayings) (text : List ℕ) → AreByTable says → IsOfBytes (says text)
+of_bytes says text table bytes is = feeds_bytes text bytes (sym (says_only text (says text) (table text)) ∙ is)
+
+pub all_of_bytes : (says : Sayings) (texts : List (List ℕ)) → AreByTable says → AllByRecursion IsOfBytes (map says texts)
+all_of_bytes says [] table = tt
+all_of_bytes says (text ∷ texts) table = (of_bytes says text table, all_of_bytes says texts table)
+
 -- of each steady front of lines, by what they say by the table
 pub fronts_keep_promises : (says : Sayings) (shown : List Reading) (texts : List (List ℕ)) → AreByTable says
     → EachSteadyFront (bus_machine says) (start shown) IsSteadyIn (λ front. IsAsPromised (map says front) shown) texts
 fronts_keep_promises says shown texts table front rest parts steady =
-    all_scripts_keep_promises front (map says front) shown (all_say says front table)
+    all_scripts_keep_promises (map says front) shown (all_of_bytes says front table)
     (subst IsSteadyIn (ap (λ (a : After _ _). a.world) (lines_are_sayings says front (start shown))) steady)
+
+-- and of the first microframes of a line
+pub lines_begin : (says : Sayings) (shown : List Reading) (texts : List (List ℕ)) → AreByTable says → EachBeginning says shown texts
+lines_begin says shown texts table front rest text count marks n parts is less =
+    lines_begin_as_promised all_scripts_keep_promises (map says front) count marks n shown (all_of_bytes says front table) less

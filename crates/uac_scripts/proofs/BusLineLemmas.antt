@@ -11,7 +11,7 @@ use Rattle.uac_rows.specs.BusWorld.{BusWorld, describing, running, meters_in, st
 use Rattle.uac_rows.specs.BusWorld as bus
 use Rattle.uac_rows.specs.BusSteps.{may_want}
 use Rattle.uac_rows.specs.BusSteps as rows
-use Rattle.uac_bus.specs.After.{said_step}
+use Rattle.uac_rows.specs.After.{said_step}
 use Rattle.uac_bus.specs.BusKept.{Answers, BusFields, BusStands}
 use Rattle.uac_ends.specs.declared.fault.LineFault.{LineFault}
 use Rattle.uac_ends.specs.declared.fault.LineFault.TheVariants as faults

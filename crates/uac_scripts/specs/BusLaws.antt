@@ -1,36 +1,21 @@
 -- Laws of the bus's transcripts (profile).
-use Rattle.std.specs.Prelude.{◌≡◌, ◌≢◌, ℕ, ◌+◌, ◌-◌, ◌≤◌, List, ◌++◌, length, map, Option, None, Some, Result}
+use Rattle.std.specs.Prelude.{◌≡◌, ◌≢◌, ℕ, ◌+◌, ◌-◌, ◌≤◌, List, ◌++◌, length, Result}
 use Rattle.std.specs.List.{AllByRecursion, AllZip}
 use Rattle.uac_edges.specs.TextLines.{with_newlines}
 use Rattle.uac_lines.specs.ScriptLines.{most_of_input}
 use Rattle.uac_script.specs.Line.{Says}
 use Rattle.uac_script.specs.Phrase.{Phrase}
 use Rattle.uac_rows.specs.BusWorld.{BusWorld}
-use Rattle.uac_bus.specs.After as bus
-use Rattle.uac_fault.specs.declared.fault.BusFault.{BusFault}
-use Rattle.uac_transcript.specs.Transcript.{Said}
-use Rattle.uac_ends.specs.declared.fault.LineFault.{LineFault}
+use Rattle.uac_rows.specs.After as bus
 use Rattle.uac_ends.specs.declared.status.Status.TheVariants as statuses
 use Rattle.uac_ends.specs.Outcome.{End, stopped, told}
-use Rattle.uac_runner.specs.Machine.{After, after}
 use Rattle.uac_runner.specs.Done.{IsScriptLine, come_to}
 use Rattle.uac_runner.specs.Transcript.{goes, transcript}
-use Rattle.uac_scripts.specs.BusMachine.{AreByTable, Sayings, bus_machine, line_fault}
-
--- the fault of the bus, where there is one, as that of a line
-abbrev pub lifted_fault : Option BusFault → Option LineFault
-lifted_fault None = None
-lifted_fault (Some fault) = Some (line_fault fault)
-
--- what the bus's lines come to, as a machine's do
-abbrev pub lifted_after : bus.After → After BusWorld Said
-lifted_after a = record { lines = a.lines; world = a.world; count = a.count; refusal = lifted_fault a.refusal }
+use Rattle.uac_scripts.specs.BusMachine.{AreByTable, AreSayings, Sayings, bus_machine, lifted_after}
 
 -- lines come to what they say does
 abbrev pub LinesAreSayings : Type 0
-LinesAreSayings =
-    (says : Sayings) (texts : List (List ℕ)) (w : BusWorld)
-    → after (bus_machine says).step texts w ≡ lifted_after (bus.after (map says texts) w)
+LinesAreSayings = (says : Sayings) → AreSayings says
 
 -- the transcript of bytes that are lines and a rest: what the lines print one after the other, by what each says by the table, up to
 -- the first refusal, which names its line; and where none is refused, then what the rest comes to in the world that they leave

@@ -1,5 +1,5 @@
 -- The bus as a machine: what a text makes of its world, by what the text says (profile).
-use Rattle.std.specs.Prelude.{ℕ, Bool, false, List, Option, None, Some, Result, Ok, Err}
+use Rattle.std.specs.Prelude.{◌≡◌, ℕ, Bool, false, List, map, Option, None, Some, Result, Ok, Err}
 use Rattle.uac_script.specs.Line.{Says}
 use Rattle.uac_script.specs.Phrase.{Phrase}
 use Rattle.uac_transcript.specs.Transcript.{Said, spelling_of}
@@ -8,10 +8,11 @@ use Rattle.uac_fault.specs.declared.fault.BusFault.TheVariants as told
 use Rattle.uac_rows.specs.BusWorld.{BusWorld, describing, running}
 use Rattle.uac_rows.specs.BusWorld as bus
 use Rattle.uac_rows.specs.BusSteps.{may_want}
-use Rattle.uac_bus.specs.After.{said_step}
+use Rattle.uac_rows.specs.After as rows
+use Rattle.uac_rows.specs.After.{said_step}
 use Rattle.uac_ends.specs.declared.fault.LineFault.{LineFault}
 use Rattle.uac_ends.specs.declared.fault.LineFault.TheVariants as faults
-use Rattle.uac_runner.specs.Machine.{Machine, Step, done, refused}
+use Rattle.uac_runner.specs.Machine.{After, Machine, Step, after, done, refused}
 
 -- what each text says
 abbrev pub Sayings : Type 0
@@ -51,3 +52,20 @@ bus_machine says = record {
   wants = λ text w. wants (says text) w;
   spell = spelling_of;
 }
+
+-- ---- lines in a row
+
+-- the fault of the bus, where there is one, as that of a line
+abbrev pub lifted_fault : Option BusFault → Option LineFault
+lifted_fault None = None
+lifted_fault (Some fault) = Some (line_fault fault)
+
+-- what the bus's lines come to, as a machine's do
+abbrev pub lifted_after : rows.After → After BusWorld Said
+lifted_after a = record { lines = a.lines; world = a.world; count = a.count; refusal = lifted_fault a.refusal }
+
+-- texts come to what they say does, line after line
+abbrev pub AreSayings : Sayings → Type 0
+AreSayings says =
+    (texts : List (List ℕ)) (w : BusWorld)
+    → after (bus_machine says).step texts w ≡ lifted_after (rows.after (map says texts) w)

@@ -3,7 +3,7 @@
 use Rattle.std.specs.Prelude.{◌≡◌, ◌≢◌, ℕ, Bool, true, false, List, [], ◌∷◌, ◌++◌, length, Option, None, Some, Result, Ok, Err, refl, map}
 use Rattle.std.specs.List.{list_all}
 use Rattle.uac_lines.specs.Words.{is_idle}
-use Rattle.uac_sentence.specs.declared.faults.GrammarFault.{GrammarFault}
+use Rattle.uac_grammar_rules.specs.declared.faults.GrammarFault.{GrammarFault}
 use Rattle.uac_topology_rules.specs.declared.fault.TopologyFault.{TopologyFault}
 use Rattle.uac_mixer.specs.declared.element.Element.{Element}
 use Rattle.std.specs.declared.alloc.Global.{Global}
@@ -22,15 +22,15 @@ use Rattle.uac_streaming.specs.Telling.{Telling}
 use Rattle.uac_request.specs.Requests.{setup_of}
 use Rattle.uac_mixer.specs.MixerElements.{fits_element}
 use Rattle.uac_transcript.specs.Transcript.{Said}
-use Rattle.uac_sentence.specs.Grammar.{first_fault}
+use Rattle.uac_grammar_rules.specs.Grammar.{first_fault}
 use Rattle.uac_grammar.specs.Stop.{shown_fault}
 use Rattle.uac_topology.specs.Topology.{first_fault_of}
-use Rattle.uac_configuration.specs.Description.{blocks_of, function_of}
+use Rattle.uac_topology.specs.Description.{blocks_of, function_of}
 use Rattle.uac_rows.specs.BusWorld.{BusWorld, Step, describing, running, done, refused, meters_in, step, step_describing, step_running}
 use Rattle.uac_rows.specs.BusWorld.{step_feed, step_go, step_telling, if_no_fault, if_sound, on_element, silently, tone_of, unless}
 use Rattle.uac_bus.specs.declared.bus.BusStage.{BusStage}
 use Rattle.uac_bus.specs.declared.bus.BusStage.TheVariants as stages
-use Rattle.uac_bus.specs.After.{said_step}
+use Rattle.uac_rows.specs.After.{said_step}
 use Rattle.uac_bus.specs.BusKept.{BusFields, BusStageStands, BusStands}
 use Rattle.uac_ends.specs.declared.fault.LineFault.TheVariants as faults
 use Rattle.uac_runner.specs.Machine.{IsFree}

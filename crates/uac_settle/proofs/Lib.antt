@@ -1,3 +1,4 @@
+pub mod SettlingBoundLemmas
 pub mod SettlingGapLemmas
 pub mod SettlingStretchLemmas
 pub mod SettlingTurnLemmas

@@ -1,11 +1,11 @@
 -- profile: why a stream comes home. The laws speak of numbers alone.
-use Rattle.std.specs.Prelude.{◌≡◌, ℕ, ◌+◌, ◌-◌, ◌*◌, ◌%◌, ◌<◌, ◌≤◌, true, false, pos, negsuc, ◌+ℤ◌, ◌-ℤ◌, ◌≤ℤ◌, List, [], ◌∷◌, ◌++◌}
+use Rattle.std.specs.Prelude.{◌≡◌, ℕ, ◌+◌, ◌-◌, ◌*◌, ◌%◌, ◌<◌, ◌≤◌, true, false, pos, negsuc, ◌+ℤ◌, ◌-ℤ◌, ◌≤ℤ◌, List, [], ◌∷◌, ◌++◌, Some}
 use Rattle.std.specs.Int.{int_min, int_max}
 use Rattle.uac_clock.specs.declared.values.Nominal.{Nominal}
 use Rattle.uac_clock.specs.Nominal.{StaysBetweenWholes}
 use Rattle.uac_rate.specs.Levels.{HasBand, AreIntervals, Point, level_and_remainder, target_and_remainder, Interval, TakesReport, IsCounted}
 use Rattle.uac_rate.specs.Levels.{Anchor, anchor_of, anchor_after_interval}
-use Rattle.uac_settle.specs.Settling.{pull_of, settle_of, Gap, left_of, error_of, Served, IsServed, IsIntervalEnd, Stretch, SettlesWithin}
+use Rattle.uac_settle.specs.Settling.{pull_of, settle_of, bound_of, Gap, left_of, error_of, Served, IsServed, IsIntervalEnd, Stretch, SettlesWithin}
 
 -- a gap takes its microframes' pull off an error above four frames, and an error of at most four frames stays so: too full, or too
 -- empty. An error that lies the other way counts as 0 in either half
@@ -62,3 +62,7 @@ abbrev pub IntervalsEndByCount : Type 0
 IntervalsEndByCount =
     (service period count : ℕ) (p : Point) → AreIntervals service period → count % service ≡ 0 → p.waited ≡ count % period
     → IsIntervalEnd service period p
+
+-- no rate has a longer bound: a stream that loses no packet is at home after at most so many microframes, two seconds and a little more
+abbrev pub NoBoundIsLonger : Type 0
+NoBoundIsLonger = (hertz microframes : ℕ) → bound_of hertz ≡ Some microframes → microframes ≤ 16384

@@ -1,6 +1,6 @@
-// Laws of settling, each the contract of a function that does nothing. They speak of numbers alone: nothing ties them to a run yet.
+// Laws of settling, each the contract of a function that does nothing. They speak of numbers alone: uac_levels ties them to a run.
 ghost use Rattle.uac_settle.specs.SettleLaws.{GapsGoHome, GapsOverIntegers, GapsBegin, IntervalsGoOn, LostReportsGoOn, StretchesSettle};
-ghost use Rattle.uac_settle.specs.SettleLaws.{StretchesGoOn, IntervalsEndByCount};
+ghost use Rattle.uac_settle.specs.SettleLaws.{NoBoundIsLonger, StretchesGoOn, IntervalsEndByCount};
 
 /// From a report that came to the next one that comes, the level goes home by the rate's pull in each microframe, until it is within four
 /// frames of its target, and then it stays there.
@@ -25,4 +25,9 @@ pub fn stretches_settle()
 pub fn stretches_go_on()
     ensures begin { IntervalsEndByCount }
     ensures goes_on { StretchesGoOn }
+{}
+
+/// The bound of each rate is at most 16,384 microframes.
+pub fn no_bound_is_longer()
+    ensures { NoBoundIsLonger }
 {}

@@ -5,8 +5,8 @@ use Rattle.std.specs.List.{list_any}
 use Rattle.std.proofs.lemmas.Bool.{true≢false, cases_lt}
 use Rattle.std.proofs.lemmas.List.{get_or_past, length-map}
 use Rattle.std.proofs.lemmas.Option.{get_or_from_slice_get, slice_get-map, slice_get_within}
-use Rattle.uac_walk.specs.Walk.{links, has_walk}
-use Rattle.uac_walk.proofs.WalkLemmas.{none_at}
+use Rattle.uac_topology_rules.specs.Walk.{links, has_walk}
+use Rattle.uac_topology_rules.proofs.WalkLemmas.{none_at}
 use Rattle.uac_entities.specs.EntityInterfaces.{entity_by_id}
 use Rattle.uac_entities.specs.declared.entity.Entity.{Entity}
 use Rattle.uac_entities.specs.declared.entity.EntityKind.{EntityKind}

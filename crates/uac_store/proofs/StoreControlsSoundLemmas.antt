@@ -7,7 +7,7 @@ use Rattle.std.proofs.lemmas.List.{length-map, length-take-le, get_or-map, get_o
 use Rattle.std.proofs.lemmas.List.Folds.{find_at}
 use Rattle.std.proofs.lemmas.Map.Keys.{IsDistinct-from_apart}
 use Rattle.std.proofs.lemmas.Option.{slice_get-get_or, slice_get_past}
-use Rattle.uac_walk.specs.Walk.{links, has_walk}
+use Rattle.uac_topology_rules.specs.Walk.{links, has_walk}
 use Rattle.uac_entities.specs.Entities.{entities_of, no_cluster}
 use Rattle.uac_entities.specs.EntityInterfaces.{channels_of, entity_by_id}
 use Rattle.uac_entities.specs.declared.entity.Cluster.{Cluster}

@@ -7,7 +7,7 @@ use Rattle.uac_entities.specs.EntityInterfaces.{entity_by_id}
 use Rattle.uac_entities.specs.declared.entity.Entity.{Entity}
 use Rattle.uac_entities.specs.declared.entity.EntityKind.{EntityKind}
 use Rattle.uac_entities.specs.declared.entity.EntityKind.TheVariants as kind
-use Rattle.uac_walk.specs.Walk.{has_walk}
+use Rattle.uac_topology_rules.specs.Walk.{has_walk}
 use Rattle.uac_topology_rules.specs.Table.{index_of}
 use Rattle.uac_topology_rules.specs.Links.{clock_links}
 use Rattle.uac_store.specs.declared.keys.Key.{Key}

@@ -2,9 +2,9 @@
 use Rattle.std.proofs.Common.{◌≡◌, ◌∙◌, sym, ap, refl, arith, ℕ, Bool, List, [], ◌∷◌, ◌++◌, map, filter, inl, inr}
 use Rattle.std.proofs.lemmas.Bool.{cases_Bool}
 use Rattle.uac_entities.specs.declared.stream.StreamInterface.{StreamInterface}
-use Rattle.uac_device_streams.specs.InterfaceStreams.{bits_of}
+use Rattle.uac_device.specs.InterfaceStreams.{set_of_streams}
 use Rattle.uac_device.specs.DeviceWorld.{DeviceWorld, met_of}
-use Rattle.uac_device_streams.specs.declared.ticking.Ticked.{Ticked}
+use Rattle.uac_device.specs.declared.ticking.Ticked.{Ticked}
 use Rattle.uac_transcript.specs.Transcript.{Said, says_over, says_under}
 use Rattle.uac_streaming.specs.StreamingWorld.{finds_empty, finds_full, found_lines}
 
@@ -16,13 +16,13 @@ abbrev pub is_full_at : ℕ → DeviceWorld → StreamInterface → Bool
 is_full_at clock w s = finds_full clock w s.number
 
 module _ (clock : ℕ) (w : DeviceWorld) (streams : List StreamInterface) (found : Ticked) (same : w.function.streams ≡ streams) (is : found ≡ met_of clock w) where
-  pub bits_under : found.under ≡ bits_of (map (is_empty_at clock w) streams)
+  pub bits_under : found.under ≡ set_of_streams (map (is_empty_at clock w) streams)
   unfolding met_of
-  bits_under = ap (λ (t : Ticked). t.under) is ∙ ap (λ (ss : List StreamInterface). bits_of (map (is_empty_at clock w) ss)) same
+  bits_under = ap (λ (t : Ticked). t.under) is ∙ ap (λ (ss : List StreamInterface). set_of_streams (map (is_empty_at clock w) ss)) same
 
-  pub bits_over : found.over ≡ bits_of (map (is_full_at clock w) streams)
+  pub bits_over : found.over ≡ set_of_streams (map (is_full_at clock w) streams)
   unfolding met_of
-  bits_over = ap (λ (t : Ticked). t.over) is ∙ ap (λ (ss : List StreamInterface). bits_of (map (is_full_at clock w) ss)) same
+  bits_over = ap (λ (t : Ticked). t.over) is ∙ ap (λ (ss : List StreamInterface). set_of_streams (map (is_full_at clock w) ss)) same
 
 -- the lines of those found empty
 abbrev pub empty_lines : ℕ → DeviceWorld → List StreamInterface → List Said
@@ -37,8 +37,8 @@ unfolding found_lines
 found_are clock w streams same = ap (λ (ss : List StreamInterface). empty_lines clock w ss ++ full_lines clock w ss) (sym same)
 
 -- where no bit is set, no test holds
-none_kept : (test : StreamInterface → Bool) (streams : List StreamInterface) → bits_of (map test streams) ≡ 0 → filter test streams ≡ []
-unfolding bits_of
+none_kept : (test : StreamInterface → Bool) (streams : List StreamInterface) → set_of_streams (map test streams) ≡ 0 → filter test streams ≡ []
+unfolding set_of_streams
 none_kept test [] none = refl
 none_kept test (s ∷ ss) none =
     elim (cases_Bool (test s)) [

@@ -9,14 +9,14 @@ use Rattle.uac_entities.specs.declared.stream.StreamInterface.{StreamInterface}
 use Rattle.uac_topology.specs.Function.{FunctionFields}
 use Rattle.uac_graph.specs.Meaning.{entity}
 use Rattle.uac_flow.specs.Flows.{ZerosFit}
-use Rattle.uac_flow.specs.FlowStreams.{OutStream, after_packet, after_taking, after_ticks, is_due, settled_out}
-use Rattle.uac_device_streams.specs.InterfaceStreams.{streams_changed_at, changed_where, either_due}
-use Rattle.uac_device.specs.DeviceWorld.{DeviceWorld, Domain, ZerosFitIn, after_advance, is_due_in, next_ticks, after_receiving, after_sending_packet, set_jack, after_settling, steps_with_next, after_tick}
+use Rattle.uac_flow.specs.FlowStreams.{OutStream, after_packet, after_taking, after_ticks, is_due, out_after_end}
+use Rattle.uac_device.specs.InterfaceStreams.{streams_changed_at, changed_where, either_due}
+use Rattle.uac_device.specs.DeviceWorld.{DeviceWorld, Domain, ZerosFitIn, after_advance, is_due_in, next_ticks, after_receiving, after_sending_in_packet, set_jack, after_end, steps_with_next, after_tick}
 use Rattle.uac_device.specs.DeviceKept.{IsDeviationInRange}
 use Rattle.uac_streaming.specs.Room.{HasRoom, HaveRoom}
 use Rattle.uac_streaming.specs.StreamingWorld.{numbers}
 use Rattle.uac_streaming.proofs.AmongLemmas.{Among, among_cases, among_first, among_none, among_rest, apart_from, known_among}
-use Rattle.uac_streaming.proofs.RoomLemmas.{IsWithin, next_few, opened, packet_came, packet_keeps, settled_again, settled_room, tick_came, tick_keeps, ticks_came, zeros_fit}
+use Rattle.uac_streaming.proofs.RoomLemmas.{IsWithin, next_few, opened, packet_came, packet_keeps, ended_again, ended_room, tick_came, tick_keeps, ticks_came, zeros_fit}
 
 -- ---- streams that change
 
@@ -170,8 +170,8 @@ received_within about loses ahead clock interface packet w known due is = record
 -- the device sends a packet, or a jack is given a frame
 pub sent_within : (about : FunctionFields → Type 0) (loses : ℕ → Bool) (ahead : List ℕ) (clock left interface : ℕ) (w : DeviceWorld)
     → AreWithin about loses ahead clock left w
-    → AreWithin about loses ahead clock left (after_sending_packet interface w)
-unfolding after_sending_packet
+    → AreWithin about loses ahead clock left (after_sending_in_packet interface w)
+unfolding after_sending_in_packet
 sent_within about loses ahead clock left interface w is = record { deviations = is.deviations; apart = is.apart; function = is.function; streams = is.streams }
 
 pub jack_within : (about : FunctionFields → Type 0) (loses : ℕ → Bool) (ahead : List ℕ) (clock left terminal : ℕ) (frame : List ℤ) (w : DeviceWorld) → AreWithin about loses ahead clock left w
@@ -308,21 +308,21 @@ all_ending about loses clock w numbered is = record {
         inr (known_among w.function k s numbered known, subst (λ (n : ℕ). IsWithin (loses k) n o) (still (on w.function clock k)) a.within)
 
 -- the microframe ends for an interface's stream
-pub settled_ending : (about : FunctionFields → Type 0) (loses : ℕ → Bool) (interface : ℕ) (ahead : List ℕ) (w : DeviceWorld)
+pub end_keeps_ending : (about : FunctionFields → Type 0) (loses : ℕ → Bool) (interface : ℕ) (ahead : List ℕ) (w : DeviceWorld)
     → AreEnding about loses (interface ∷ ahead) w
-    → AreEnding about loses ahead (after_settling interface w)
-unfolding after_settling IsEnding
-settled_ending about loses interface ahead w is = record {
+    → AreEnding about loses ahead (after_end interface w)
+unfolding after_end IsEnding
+end_keeps_ending about loses interface ahead w is = record {
   deviations = is.deviations;
   apart = is.apart;
   function = is.function;
-  streams = each_at (IsEnding loses (interface ∷ ahead)) (IsEnding loses ahead) interface settled_out w.outs here there is.streams;
+  streams = each_at (IsEnding loses (interface ∷ ahead)) (IsEnding loses ahead) interface out_after_end w.outs here there is.streams;
 }
   where
     here : (o : OutStream) → w.outs interface ≡ Some o
         → HasRoom o ⊎ (Among interface (interface ∷ ahead) × IsWithin (loses interface) 0 o)
-        → HasRoom (settled_out o) ⊎ (Among interface ahead × IsWithin (loses interface) 0 (settled_out o))
-    here o _ ending = elim ending [ inl room ↦ inl (settled_again o room) | inr both ↦ inl (settled_room (loses interface) o both.1) ]
+        → HasRoom (out_after_end o) ⊎ (Among interface ahead × IsWithin (loses interface) 0 (out_after_end o))
+    here o _ ending = elim ending [ inl room ↦ inl (ended_again o room) | inr both ↦ inl (ended_room (loses interface) o both.1) ]
 
     there : (k : ℕ) (o : OutStream) → (k == interface) ≡ false → HasRoom o ⊎ (Among k (interface ∷ ahead) × IsWithin (loses k) 0 o)
         → HasRoom o ⊎ (Among k ahead × IsWithin (loses k) 0 o)

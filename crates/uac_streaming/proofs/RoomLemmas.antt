@@ -16,7 +16,7 @@ use Rattle.uac_rate.specs.Levels.{IsInterval}
 use Rattle.uac_ring.specs.Rings.{ring_frames}
 use Rattle.uac_store.specs.Rates.{rate_of}
 use Rattle.uac_flow.specs.Flows.{ZerosFit}
-use Rattle.uac_flow.specs.FlowStreams.{OutStream, after_packet, after_taking, after_ticks, frames_of, is_due, out_level, priming_level, settled_out, settled_when_due, takes_all, target_after, zeros_due}
+use Rattle.uac_flow.specs.FlowStreams.{OutStream, after_packet, after_taking, after_ticks, frames_of, is_due, out_level, priming_level, out_after_end, after_due_end, takes_all, target_after, zeros_due}
 use Rattle.uac_device.specs.DeviceWorld.{DeviceWorld, Domain, next_ticks, step_in, steps_with_next}
 use Rattle.uac_device.specs.DeviceKept.{IsDeviationInRange}
 use Rattle.uac_device.proofs.DeviceTurnsTickLemmas.{nominal_most, rated_nominal}
@@ -238,12 +238,12 @@ still_priming None level s none = by (nat_lt level (priming_level s)) refl none
     by false _ some = absurd (cc)
 
 -- the microframe ends for it
-pub settled_room : (loses : Bool) (o : OutStream) → IsWithin loses 0 o → HasRoom (settled_out o)
-unfolding settled_out
-settled_room loses o is = by (is_due o.stream o.microframes) refl
+pub ended_room : (loses : Bool) (o : OutStream) → IsWithin loses 0 o → HasRoom (out_after_end o)
+unfolding out_after_end
+ended_room loses o is = by (is_due o.stream o.microframes) refl
   where
     by : (b : Bool) → is_due o.stream o.microframes ≡ b
-        → HasRoom (record (if b then settled_when_due o else o) { microframes = o.microframes + 1 })
+        → HasRoom (record (if b then after_due_end o else o) { microframes = o.microframes + 1 })
     by true due =
         let longer = length-append o.arrived (zeros_due o) in
         record {
@@ -265,8 +265,8 @@ settled_room loses o is = by (is_due o.stream o.microframes) refl
           few = subst (λ (n : ℕ). o.ticks ≤ 27 * n) (sym (next_rest o.stream.service o.microframes is.serves (eqb-false _ _ not_due))) is.few;
         }
 
-pub settled_again : (o : OutStream) → HasRoom o → HasRoom (settled_out o)
-settled_again o room = settled_room false o (opened false o room)
+pub ended_again : (o : OutStream) → HasRoom o → HasRoom (out_after_end o)
+ended_again o room = ended_room false o (opened false o room)
 
 -- ---- the ticks of a domain
 

@@ -16,7 +16,7 @@ use Rattle.uac_alt.proofs.AltStreamsLemmas.{parts_of, ran_of}
 use Rattle.uac_request.specs.Requests.{after_request, request_state, rate_at, reply_of, sets_interface, is_done_answer}
 use Rattle.uac_request.specs.declared.setup.Setup.{Setup}
 use Rattle.uac_flow.specs.FlowStreams.{OutStream, started_out}
-use Rattle.uac_device_streams.specs.InterfaceStreams.{out_from, streams_replaced_at}
+use Rattle.uac_device.specs.InterfaceStreams.{out_from, streams_replaced_at}
 use Rattle.uac_device.specs.DeviceWorld.{DeviceWorld, resting_domain, after_control, after_deviation, fresh, after_restart, stream_in_setting}
 use Rattle.uac_device.specs.DeviceKept.{IsDeviationInRange}
 use Rattle.uac_device.proofs.AltStreamsLemmas.{interval}

@@ -9,9 +9,9 @@ use Rattle.uac_device.specs.DeviceWorld.{DeviceWorld, feedback_in, is_due_in}
 use Rattle.uac_host.specs.HostCalls.{packet_of}
 use Rattle.uac_script.specs.Phrase.{PhraseMark}
 use Rattle.uac_streaming.specs.Telling.{Telling, without_event, in_turn}
-use Rattle.uac_streaming.specs.StreamingWorld.{StreamingWorld, all_reported, all_settled, fetched_lines, goes_out, in_packet_turn, in_packets, is_in_due, is_out_due, loses_in, loses_out, loses_report, numbers, out_packets, out_turn, packet_fetched, packet_sent, feedback_lines, report_made, report_turn, sent_lines, settled_turn}
+use Rattle.uac_streaming.specs.StreamingWorld.{StreamingWorld, all_feedback, all_ends, fetched_lines, goes_out, in_packet_turn, in_packets, is_in_due, is_out_due, loses_in, loses_out, loses_feedback, numbers, out_packets, out_turn, packet_fetched, packet_sent_out, feedback_lines, feedback_made, feedback_turn, sent_out_lines, end_turn}
 use Rattle.uac_streaming.specs.Room.{HaveRoom}
-use Rattle.uac_streaming.proofs.RoomDeviceLemmas.{AreEnding, AreWithin, HaveSmallNumbers, all_ended, all_ending, received_within, sent_within, settled_ending}
+use Rattle.uac_streaming.proofs.RoomDeviceLemmas.{AreEnding, AreWithin, HaveSmallNumbers, all_ended, all_ending, received_within, sent_within, end_keeps_ending}
 
 -- what each of these leaves so is so after the last
 in_turn_keeps : {W : Type 0} (P : W → Type 0) (event : ℕ → W → Telling W) → ((n : ℕ) (w : W) → P w → P (event n w).world)
@@ -33,11 +33,11 @@ module _ (about : FunctionFields → Type 0) (detail : ℕ) (marks : List Phrase
   Holds w = AreWithin about (loses_out marks) ahead clock 0 w.device
 
   out_turn_within : (interface : ℕ) (w : StreamingWorld) → Holds w → Holds (out_turn detail marks interface w).world
-  unfolding out_turn packet_sent
+  unfolding out_turn packet_sent_out
   out_turn_within interface w is = by (is_out_due w interface) refl
     where
       by : (b : Bool) → is_out_due w interface ≡ b
-          → Holds (if b then record { lines = sent_lines detail (loses_out marks interface) interface w; world = packet_sent (loses_out marks interface) interface w }
+          → Holds (if b then record { lines = sent_out_lines detail (loses_out marks interface) interface w; world = packet_sent_out (loses_out marks interface) interface w }
           else without_event w).world
       by true due =
           let both = and_parts (goes_out w.device.function interface) (is_due_in w.device interface) due in
@@ -65,42 +65,42 @@ module _ (about : FunctionFields → Type 0) (detail : ℕ) (marks : List Phrase
 
 -- ---- the ends
 
-settled_turns : (about : FunctionFields → Type 0) (detail : ℕ) (loses : ℕ → Bool) (ns : List ℕ) (w : StreamingWorld)
+ended_turns : (about : FunctionFields → Type 0) (detail : ℕ) (loses : ℕ → Bool) (ns : List ℕ) (w : StreamingWorld)
     → AreEnding about loses ns w.device
-    → AreEnding about loses [] (in_turn (settled_turn detail) ns w).world.device
-unfolding in_turn settled_turn
-settled_turns about detail loses [] w is = is
-settled_turns about detail loses (n ∷ ns) w is =
-    settled_turns about detail loses ns (settled_turn detail n w).world (settled_ending about loses n ns w.device is)
+    → AreEnding about loses [] (in_turn (end_turn detail) ns w).world.device
+unfolding in_turn end_turn
+ended_turns about detail loses [] w is = is
+ended_turns about detail loses (n ∷ ns) w is =
+    ended_turns about detail loses ns (end_turn detail n w).world (end_keeps_ending about loses n ns w.device is)
 
 -- there is room, and something is so of the device's function
 pub record IsRoomy (about : FunctionFields → Type 0) (w : DeviceWorld) : Type 0 where
   pub room : HaveRoom w
   pub function : about w.function
 
-pub all_settled_room : (about : FunctionFields → Type 0) (detail : ℕ) (loses : ℕ → Bool) (clock : ℕ) (w : StreamingWorld)
+pub all_ends_room : (about : FunctionFields → Type 0) (detail : ℕ) (loses : ℕ → Bool) (clock : ℕ) (w : StreamingWorld)
     → HaveSmallNumbers w.device.function
-    → AreWithin about loses [] clock 0 w.device → IsRoomy about (all_settled detail w).world.device
-unfolding all_settled
-all_settled_room about detail loses clock w small is =
-    let ended = settled_turns about detail loses (numbers w.device.function) w (all_ending about loses clock w.device small is) in
+    → AreWithin about loses [] clock 0 w.device → IsRoomy about (all_ends detail w).world.device
+unfolding all_ends
+all_ends_room about detail loses clock w small is =
+    let ended = ended_turns about detail loses (numbers w.device.function) w (all_ending about loses clock w.device small is) in
     record { room = all_ended about loses _ ended; function = ended.function }
 
 -- ---- the reports
 
-report_turn_keeps : (P : DeviceWorld → Type 0) (detail : ℕ) (marks : List PhraseMark) (interface : ℕ) (w : StreamingWorld) → P w.device
-    → P (report_turn detail marks interface w).world.device
-unfolding report_turn report_made
-report_turn_keeps P detail marks interface w is = by (feedback_in w.device interface)
+feedback_turn_keeps : (P : DeviceWorld → Type 0) (detail : ℕ) (marks : List PhraseMark) (interface : ℕ) (w : StreamingWorld) → P w.device
+    → P (feedback_turn detail marks interface w).world.device
+unfolding feedback_turn feedback_made
+feedback_turn_keeps P detail marks interface w is = by (feedback_in w.device interface)
   where
     by : (o : Option ℕ)
-        → P (option_map_or (λ value. record { lines = feedback_lines detail (loses_report marks interface) value interface; world = report_made (loses_report marks interface) value interface w })
+        → P (option_map_or (λ value. record { lines = feedback_lines detail (loses_feedback marks interface) value interface; world = feedback_made (loses_feedback marks interface) value interface w })
         o (without_event w)).world.device
     by None = is
     by (Some value) = is
 
-pub all_reported_keeps : (P : DeviceWorld → Type 0) (detail : ℕ) (marks : List PhraseMark) (w : StreamingWorld) → P w.device
-    → P (all_reported detail marks w).world.device
-unfolding all_reported
-all_reported_keeps P detail marks w is =
-    in_turn_keeps (λ (v : StreamingWorld). P v.device) (report_turn detail marks) (λ n v. report_turn_keeps P detail marks n v) (numbers w.device.function) w is
+pub all_feedback_keeps : (P : DeviceWorld → Type 0) (detail : ℕ) (marks : List PhraseMark) (w : StreamingWorld) → P w.device
+    → P (all_feedback detail marks w).world.device
+unfolding all_feedback
+all_feedback_keeps P detail marks w is =
+    in_turn_keeps (λ (v : StreamingWorld). P v.device) (feedback_turn detail marks) (λ n v. feedback_turn_keeps P detail marks n v) (numbers w.device.function) w is

@@ -18,7 +18,7 @@ pub stands_start : (function : FunctionFields) (d : devices.DeviceFields) (host_
     → devices.DeviceStands d (fresh function) → hosts.HostStands host_streams (fresh_host function) → order ≡ numbers function → outs ≡ filter (goes_out function) order → ins ≡ filter (comes_in function) order
     → met ≡ met_in (λ interface. nothing_met) function
     → steadiness.SteadyStands steady steadiness.nothing_given
-    → StreamingStands (record { host = host_streams; order = order; outs = outs; ins = ins; met = met; steady = steady; sent_packet = to_device; fetched_packet = from_device }) d (streaming_start function)
+    → StreamingStands (record { host = host_streams; order = order; outs = outs; ins = ins; met = met; steady = steady; sent_out_packet = to_device; fetched_packet = from_device }) d (streaming_start function)
 unfolding streaming_start fresh fresh_host
 stands_start function d host_streams order outs ins to_device from_device met steady of_device of_host ordered to from counts given = record {
   device = of_device;
@@ -55,7 +55,7 @@ module _ (p : StreamingFields) (d : devices.DeviceFields) (w : StreamingWorld) (
   -- the device and the host change, and the last packets
   pub carried : (after : devices.DeviceFields) (host_streams : List HostStream) (to_device from_device : List ℕ) (device : DeviceWorld) (host : HostWorld) → devices.DeviceStands after device
       → hosts.HostStands host_streams host → device.function ≡ w.device.function → host.function ≡ w.host.function
-      → StreamingStands (record p { host = host_streams; sent_packet = to_device; fetched_packet = from_device }) after (record w { device = device; host = host })
+      → StreamingStands (record p { host = host_streams; sent_out_packet = to_device; fetched_packet = from_device }) after (record w { device = device; host = host })
   carried after host_streams to_device from_device device host of_device of_host device_same host_same = record {
     device = of_device;
     host = of_host;

@@ -4,9 +4,9 @@ use Rattle.std.proofs.lemmas.Grind.{common_steps}
 use Rattle.std.proofs.lemmas.List.{drop_all, take_all, take_more_set}
 use Rattle.uac_entities.specs.declared.stream.StreamInterface.{StreamInterface}
 use Rattle.uac_ring.specs.declared.counts.StreamCounts.{StreamCounts}
-use Rattle.uac_device_streams.specs.InterfaceStreams.{bits_of}
+use Rattle.uac_device.specs.InterfaceStreams.{set_of_streams}
 use Rattle.uac_device.specs.DeviceWorld.{DeviceWorld, met_of}
-use Rattle.uac_device_streams.specs.declared.ticking.Ticked.{Ticked}
+use Rattle.uac_device.specs.declared.ticking.Ticked.{Ticked}
 use Rattle.uac_streaming.specs.StreamingWorld.{finds_empty, finds_full, found_counts, met_in, one_over, one_under}
 
 -- counts of a stream whose ring was found so
@@ -39,12 +39,12 @@ found_more empty full at met x d below is =
 
 -- bits of tests
 pub found_by : (empty full : StreamInterface → Bool) (counts : StreamInterface → StreamCounts) (streams : List StreamInterface)
-    → found_in (bits_of (map empty streams)) (bits_of (map full streams)) (map counts streams) ≡ map (λ s. found_one (empty s) (full s) (counts s)) streams
-unfolding bits_of found_in
+    → found_in (set_of_streams (map empty streams)) (set_of_streams (map full streams)) (map counts streams) ≡ map (λ s. found_one (empty s) (full s) (counts s)) streams
+unfolding set_of_streams found_in
 found_by empty full counts [] = refl
 found_by empty full counts (s ∷ ss) =
-    let e = bits_of (map empty ss) in
-    let f = bits_of (map full ss) in
+    let e = set_of_streams (map empty ss) in
+    let f = set_of_streams (map full ss) in
     rw (low_bit (empty s) e, low_bit (full s) f, high_bits (empty s) e, high_bits (full s) f)
     (ap (λ cs. found_one (empty s) (full s) (counts s) ∷ cs) (found_by empty full counts ss))
 

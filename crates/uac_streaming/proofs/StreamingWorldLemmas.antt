@@ -11,7 +11,7 @@ use Rattle.uac_edges.specs.Writing.{AppendsFront}
 use Rattle.uac_topology.specs.Function.{FunctionFields, interface_in}
 use Rattle.uac_ring.specs.declared.arrival.Arrival.{Arrival}
 use Rattle.uac_device.specs.DeviceKept as devices
-use Rattle.uac_device.specs.DeviceWorld.{DeviceWorld, ZerosFitIn, arrival_in, feedback_in, frames_in, is_due_in, packet_in, after_receiving, after_sending_packet, after_settling}
+use Rattle.uac_device.specs.DeviceWorld.{DeviceWorld, ZerosFitIn, arrival_in, feedback_in, frames_in, is_due_in, packet_in, after_receiving, after_sending_in_packet, after_end}
 use Rattle.uac_host.specs.HostKept as hosts
 use Rattle.uac_host.specs.HostWorld.{HostWorld}
 use Rattle.uac_host.specs.HostCalls.{heard_in, size_of}
@@ -20,7 +20,7 @@ use Rattle.uac_transcript.specs.Transcript.{Said, says_feedback, says_frame, say
 use Rattle.uac_transcript.specs.Printing.{Prints, text_of}
 use Rattle.uac_transcript.proofs.PrintingLemmas.{Prints-after}
 use Rattle.uac_streaming.specs.Telling.{Telling, without_event, in_turn, telling_after}
-use Rattle.uac_streaming.specs.StreamingWorld.{StreamingWorld, all_reported, all_settled, comes_in, fetched_lines, goes_out, in_lines, in_packet_turn, in_packets, inward_turn, is_in_due, is_out_due, loses_in, loses_out, loses_report, numbers, numbers_in, numbers_out, out_lines, out_packets, out_turn, outward_turn, packet_fetched, packet_sent, packet_to, feedback_lines, report_made, report_turn, sent_lines, settled_lines, settled_turn}
+use Rattle.uac_streaming.specs.StreamingWorld.{StreamingWorld, all_feedback, all_ends, comes_in, fetched_lines, goes_out, in_lines, in_packet_turn, in_packets, inward_turn, is_in_due, is_out_due, loses_in, loses_out, loses_feedback, numbers, numbers_in, numbers_out, out_lines, out_packets, out_turn, outward_turn, packet_fetched, packet_sent_out, packet_to, feedback_lines, feedback_made, feedback_turn, sent_out_lines, end_lines, end_turn}
 use Rattle.uac_streaming.specs.StreamingKept.{StreamingFields, StreamingStands, StreamingTells}
 use Rattle.uac_streaming.proofs.TellingLemmas.{Appends-nothing}
 
@@ -42,23 +42,23 @@ module _ (detail interface : ℕ) (marks : List PhraseMark) (w : StreamingWorld)
   unfolding outward_turn
   out_rests idle =
       let lost : Bool = loses_out marks interface in
-      let runs : Telling StreamingWorld = record { lines = sent_lines detail lost interface w; world = packet_sent lost interface w } in
+      let runs : Telling StreamingWorld = record { lines = sent_out_lines detail lost interface w; world = packet_sent_out lost interface w } in
       ap (λ (b : Bool). if b then runs else without_event w) (sym idle ∙ is)
 
   pub out_told : {T E : Type 0} (q : StreamingFields) (e : devices.DeviceFields) (old new : Option (List ℕ)) (r : Result T E) (frames : ℕ) (arrival : Arrival) (lost : Bool)
       → due ≡ true → lost ≡ loses_out marks interface → frames ≡ size_of w.host interface → arrival ≡ arrival_in w.device interface (packet_to lost interface w)
-      → StreamingStands q e (packet_sent lost interface w) → Prints old new r (out_lines detail interface frames arrival) → StreamingTells (outward_turn detail marks interface w) q e old new r
+      → StreamingStands q e (packet_sent_out lost interface w) → Prints old new r (out_lines detail interface frames arrival) → StreamingTells (outward_turn detail marks interface w) q e old new r
   unfolding outward_turn
   out_told q e old new r frames arrival lost ran own frames_are arrives stands prints =
       let loses : Bool = loses_out marks interface in
-      let runs : Telling StreamingWorld = record { lines = sent_lines detail loses interface w; world = packet_sent loses interface w } in
+      let runs : Telling StreamingWorld = record { lines = sent_out_lines detail loses interface w; world = packet_sent_out loses interface w } in
       let happens : runs ≡ outward_turn detail marks interface w = ap (λ (b : Bool). if b then runs else without_event w) (sym ran ∙ is) in
-      let lines : out_lines detail interface frames arrival ≡ sent_lines detail loses interface w =
+      let lines : out_lines detail interface frames arrival ≡ sent_out_lines detail loses interface w =
       ap (λ (n : ℕ). out_lines detail interface n arrival) frames_are
       ∙ ap (out_lines detail interface (size_of w.host interface)) (arrives ∙ ap (λ (b : Bool). arrival_in w.device interface (packet_to b interface w)) own) in
       subst (λ (told : Telling StreamingWorld). StreamingTells told q e old new r) happens (
         subst (λ (ls : List Said). Prints old new r ls) lines prints,
-        at_ok (StreamingStands q e (packet_sent loses interface w)) r (subst (λ (b : Bool). StreamingStands q e (packet_sent b interface w)) own stands),
+        at_ok (StreamingStands q e (packet_sent_out loses interface w)) r (subst (λ (b : Bool). StreamingStands q e (packet_sent_out b interface w)) own stands),
       )
 
 -- ---- packets from the device
@@ -110,33 +110,33 @@ module _ (detail interface : ℕ) (marks : List PhraseMark) (w : StreamingWorld)
 -- ---- reports
 
 module _ (detail interface : ℕ) (marks : List PhraseMark) (w : StreamingWorld) (report : Option ℕ) (is : report ≡ feedback_in w.device interface) where
-  pub report_rests : report ≡ None → without_event w ≡ report_turn detail marks interface w
-  unfolding report_turn
-  report_rests none =
-      let lost : Bool = loses_report marks interface in
-      let made : ℕ → Telling StreamingWorld = λ value. record { lines = feedback_lines detail lost value interface; world = report_made lost value interface w } in
+  pub feedback_rests : report ≡ None → without_event w ≡ feedback_turn detail marks interface w
+  unfolding feedback_turn
+  feedback_rests none =
+      let lost : Bool = loses_feedback marks interface in
+      let made : ℕ → Telling StreamingWorld = λ value. record { lines = feedback_lines detail lost value interface; world = feedback_made lost value interface w } in
       ap (λ (o : Option ℕ). option_map_or made o (without_event w)) (sym none ∙ is)
 
-  pub report_told : {T E : Type 0} (q : StreamingFields) (e : devices.DeviceFields) (old new : Option (List ℕ)) (r : Result T E) (value : ℕ) (lost : Bool)
-      → report ≡ Some value → lost ≡ loses_report marks interface → StreamingStands q e (report_made lost value interface w)
-      → Prints old new r (if nat_le 2 detail then says_feedback interface value lost ∷ [] else []) → StreamingTells (report_turn detail marks interface w) q e old new r
-  unfolding report_turn
-  report_told q e old new r value lost some own stands prints =
-      let loses : Bool = loses_report marks interface in
-      let made : ℕ → Telling StreamingWorld = λ v. record { lines = feedback_lines detail loses v interface; world = report_made loses v interface w } in
-      let happens : made value ≡ report_turn detail marks interface w = ap (λ (o : Option ℕ). option_map_or made o (without_event w)) (sym some ∙ is) in
+  pub feedback_told : {T E : Type 0} (q : StreamingFields) (e : devices.DeviceFields) (old new : Option (List ℕ)) (r : Result T E) (value : ℕ) (lost : Bool)
+      → report ≡ Some value → lost ≡ loses_feedback marks interface → StreamingStands q e (feedback_made lost value interface w)
+      → Prints old new r (if nat_le 2 detail then says_feedback interface value lost ∷ [] else []) → StreamingTells (feedback_turn detail marks interface w) q e old new r
+  unfolding feedback_turn
+  feedback_told q e old new r value lost some own stands prints =
+      let loses : Bool = loses_feedback marks interface in
+      let made : ℕ → Telling StreamingWorld = λ v. record { lines = feedback_lines detail loses v interface; world = feedback_made loses v interface w } in
+      let happens : made value ≡ feedback_turn detail marks interface w = ap (λ (o : Option ℕ). option_map_or made o (without_event w)) (sym some ∙ is) in
       subst (λ (told : Telling StreamingWorld). StreamingTells told q e old new r) happens (
         subst (λ (b : Bool). Prints old new r (feedback_lines detail b value interface)) own prints,
-        at_ok (StreamingStands q e (report_made loses value interface w)) r (subst (λ (b : Bool). StreamingStands q e (report_made b value interface w)) own stands),
+        at_ok (StreamingStands q e (feedback_made loses value interface w)) r (subst (λ (b : Bool). StreamingStands q e (feedback_made b value interface w)) own stands),
       )
 
 -- ---- the ends of microframes
 
 -- the device alone changes
-settled_stands : (p : StreamingFields) (d e : devices.DeviceFields) (w : StreamingWorld) (detail interface : ℕ) → StreamingStands p d w → devices.DeviceStands e (after_settling interface w.device)
-    → StreamingStands p e (settled_turn detail interface w).world
-unfolding settled_turn after_settling
-settled_stands p d e w detail interface stands after = record {
+ended_stands : (p : StreamingFields) (d e : devices.DeviceFields) (w : StreamingWorld) (detail interface : ℕ) → StreamingStands p d w → devices.DeviceStands e (after_end interface w.device)
+    → StreamingStands p e (end_turn detail interface w).world
+unfolding end_turn after_end
+ended_stands p d e w detail interface stands after = record {
   device = after;
   host = stands.host;
   same = stands.same;
@@ -148,8 +148,8 @@ settled_stands p d e w detail interface stands after = record {
 }
 
 -- what is due at another interface stays as it was
-zeros_elsewhere : (w : DeviceWorld) (interface other : ℕ) → (other == interface) ≡ false → ZerosFitIn w other → ZerosFitIn (after_settling interface w) other
-unfolding ZerosFitIn after_settling
+zeros_elsewhere : (w : DeviceWorld) (interface other : ℕ) → (other == interface) ≡ false → ZerosFitIn w other → ZerosFitIn (after_end interface w) other
+unfolding ZerosFitIn after_end
 zeros_elsewhere w interface other differs fits = rw differs fits
 
 -- of those that come, each has room for the zeros that are due
@@ -177,13 +177,13 @@ numbers_differ function i k before below =
 above_differs : (m n : ℕ) → m < n → (n == m) ≡ false
 above_differs m n less = grind arith
 
--- the device is settled at one, and what comes still fits
-pub settled_one : (p : StreamingFields) (d e : devices.DeviceFields) (w : StreamingWorld) (detail interface i : ℕ) → interface ≡ get_or p.order i 0
-    → StandsBefore p d p.order i w → devices.DeviceStands e (after_settling interface w.device) → StandsBefore p e p.order (i + 1) (settled_turn detail interface w).world
-unfolding settled_turn
-settled_one p d e w detail interface i is before after =
+-- the microframe ended at one, and what comes still fits
+pub ended_one : (p : StreamingFields) (d e : devices.DeviceFields) (w : StreamingWorld) (detail interface i : ℕ) → interface ≡ get_or p.order i 0
+    → StandsBefore p d p.order i w → devices.DeviceStands e (after_end interface w.device) → StandsBefore p e p.order (i + 1) (end_turn detail interface w).world
+unfolding end_turn
+ended_one p d e w detail interface i is before after =
     let order = before.0.order in (
-      settled_stands p d e w detail interface before.0 after,
+      ended_stands p d e w detail interface before.0 after,
       λ k above below.
           let there : k < length (numbers w.device.function) = subst (λ (ns : List ℕ). k < length ns) order below in
           let less : get_or p.order i 0 < get_or p.order k 0 =
@@ -193,21 +193,21 @@ settled_one p d e w detail interface i is before after =
     )
 
 module _ (p : StreamingFields) (d e : devices.DeviceFields) (detail interface i : ℕ) (mid new : Option (List ℕ)) (is : interface ≡ get_or p.order i 0) (below : i < length p.order) where
-  -- the next one is settled
-  pub settled_next : ((v : DeviceWorld) → devices.DeviceStands d v → ZerosFitIn v interface → Appends mid new (text_of (settled_lines detail interface v)) × devices.DeviceStands e (after_settling interface v))
+  -- it ended at the next one
+  pub ended_next : ((v : DeviceWorld) → devices.DeviceStands d v → ZerosFitIn v interface → Appends mid new (text_of (end_lines detail interface v)) × devices.DeviceStands e (after_end interface v))
       → (w : StreamingWorld) → StandsBefore p d p.order i w
-      → Appends mid new (text_of (settled_turn detail interface w).lines) × StandsBefore p e p.order (i + 1) (settled_turn detail interface w).world
-  unfolding settled_turn
-  settled_next tells w before =
+      → Appends mid new (text_of (end_turn detail interface w).lines) × StandsBefore p e p.order (i + 1) (end_turn detail interface w).world
+  unfolding end_turn
+  ended_next tells w before =
       let fits = subst (ZerosFitIn w.device) (sym is) (before.1 i (omega arith) below) in
       let t = tells w.device before.0.device fits in
-      (t.0, settled_one p d e w detail interface i is before t.1)
+      (t.0, ended_one p d e w detail interface i is before t.1)
 
   -- or its line fails
-  pub settled_failed : ((v : DeviceWorld) → devices.DeviceStands d v → ZerosFitIn v interface → AppendsFront mid new (text_of (settled_lines detail interface v)) × devices.DeviceStands e (after_settling interface v))
-      → (w : StreamingWorld) → StandsBefore p d p.order i w → AppendsFront mid new (text_of (settled_turn detail interface w).lines)
-  unfolding settled_turn
-  settled_failed tells w before =
+  pub ended_failed : ((v : DeviceWorld) → devices.DeviceStands d v → ZerosFitIn v interface → AppendsFront mid new (text_of (end_lines detail interface v)) × devices.DeviceStands e (after_end interface v))
+      → (w : StreamingWorld) → StandsBefore p d p.order i w → AppendsFront mid new (text_of (end_turn detail interface w).lines)
+  unfolding end_turn
+  ended_failed tells w before =
       let fits = subst (ZerosFitIn w.device) (sym is) (before.1 i (omega arith) below) in
       (tells w.device before.0.device fits).0
 
@@ -240,18 +240,18 @@ module _ (function : FunctionFields) (detail : ℕ) (marks : List PhraseMark) (i
   unfolding outward_turn out_turn
   outward_does goes =
       let lost : Bool = loses_out marks interface in
-      let runs : Telling StreamingWorld = record { lines = sent_lines detail lost interface w; world = packet_sent lost interface w } in
+      let runs : Telling StreamingWorld = record { lines = sent_out_lines detail lost interface w; world = packet_sent_out lost interface w } in
       ap (λ (b : Bool). if (b && is_due_in w.device interface) then runs else without_event w) (sym (ap (λ (f : FunctionFields). goes_out f interface) of ∙ goes))
 
   outward_rests : goes_out function interface ≡ false → without_event w ≡ out_turn detail marks interface w
   unfolding out_turn
   outward_rests stays =
       let lost : Bool = loses_out marks interface in
-      let runs : Telling StreamingWorld = record { lines = sent_lines detail lost interface w; world = packet_sent lost interface w } in
+      let runs : Telling StreamingWorld = record { lines = sent_out_lines detail lost interface w; world = packet_sent_out lost interface w } in
       ap (λ (b : Bool). if (b && is_due_in w.device interface) then runs else without_event w) (sym (ap (λ (f : FunctionFields). goes_out f interface) of ∙ stays))
 
   outward_keeps : IsOf function (out_turn detail marks interface w).world
-  unfolding out_turn packet_sent after_receiving
+  unfolding out_turn packet_sent_out after_receiving
   outward_keeps = elim (cases_Bool (is_out_due w interface)) [ inl due ↦ rw due of | inr not_due ↦ rw not_due of ]
 
   inward_does : comes_in function interface ≡ true → inward_turn detail marks interface w ≡ in_packet_turn detail marks interface w
@@ -269,7 +269,7 @@ module _ (function : FunctionFields) (detail : ℕ) (marks : List PhraseMark) (i
       ap (λ (b : Bool). if (b && is_due_in w.device interface) then runs else without_event w) (sym (ap (λ (f : FunctionFields). comes_in f interface) of ∙ stays))
 
   inward_keeps : IsOf function (in_packet_turn detail marks interface w).world
-  unfolding in_packet_turn packet_fetched after_sending_packet
+  unfolding in_packet_turn packet_fetched after_sending_in_packet
   inward_keeps = elim (cases_Bool (is_in_due w interface)) [ inl due ↦ rw due of | inr not_due ↦ rw not_due of ]
 
 pub out_packets_are : (detail : ℕ) (marks : List PhraseMark) (w : StreamingWorld) (outs : List ℕ) → outs ≡ numbers_out w.device.function
@@ -290,11 +290,11 @@ in_packets_are detail marks w ins is =
     ∙ in_turn_chosen (IsOf function) (inward_turn detail marks) (in_packet_turn detail marks) (comes_in function) (inward_does function detail marks)
     (inward_rests function detail marks) (inward_keeps function detail marks) (numbers function) w refl
 
-pub all_settled_are : (detail : ℕ) (w : StreamingWorld) (order : List ℕ) → order ≡ numbers w.device.function → in_turn (settled_turn detail) order w ≡ all_settled detail w
-unfolding all_settled
-all_settled_are detail w order is = ap (λ (ns : List ℕ). in_turn (settled_turn detail) ns w) is
+pub all_ends_are : (detail : ℕ) (w : StreamingWorld) (order : List ℕ) → order ≡ numbers w.device.function → in_turn (end_turn detail) order w ≡ all_ends detail w
+unfolding all_ends
+all_ends_are detail w order is = ap (λ (ns : List ℕ). in_turn (end_turn detail) ns w) is
 
-pub all_reported_are : (detail : ℕ) (marks : List PhraseMark) (w : StreamingWorld) (order : List ℕ) → order ≡ numbers w.device.function
-    → in_turn (report_turn detail marks) order w ≡ all_reported detail marks w
-unfolding all_reported
-all_reported_are detail marks w order is = ap (λ (ns : List ℕ). in_turn (report_turn detail marks) ns w) is
+pub all_feedback_are : (detail : ℕ) (marks : List PhraseMark) (w : StreamingWorld) (order : List ℕ) → order ≡ numbers w.device.function
+    → in_turn (feedback_turn detail marks) order w ≡ all_feedback detail marks w
+unfolding all_feedback
+all_feedback_are detail marks w order is = ap (λ (ns : List ℕ). in_turn (feedback_turn detail marks) ns w) is

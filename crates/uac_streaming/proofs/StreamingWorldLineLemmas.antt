@@ -13,7 +13,7 @@ use Rattle.uac_host.specs.HostWorld.{HostWorld, Pace}
 use Rattle.uac_host.specs.HostCalls.{heard_in}
 use Rattle.uac_ring.specs.declared.arrival.Arrival.{Arrival}
 use Rattle.uac_ring.specs.declared.arrival.Arrival.TheVariants as arrivals
-use Rattle.uac_device_streams.specs.InterfaceStreams.{bits_of}
+use Rattle.uac_device.specs.InterfaceStreams.{set_of_streams}
 use Rattle.uac_transcript.specs.Transcript.{Said, says_out, says_over, spelling_of}
 use Rattle.uac_transcript.specs.Printing.{Prints, text_of}
 use Rattle.uac_transcript.proofs.PrintingLemmas.{Prints-after, Prints-line}
@@ -66,15 +66,15 @@ bits_of_rest : (b : Bool) (n : ℕ) → ((if b then 1 else 0) + 2 * n) / 2 ≡ n
 bits_of_rest true n = omega arith
 bits_of_rest false n = omega arith
 
-module _ {X : Type 0} (test : X → Bool) (xs : List X) (i : ℕ) (d : X) (bits : ℕ) (below : i < length xs) (is : bits ≡ bits_of (map test (drop i xs))) where
-  bits_split : bits ≡ (if test (get_or xs i d) then 1 else 0) + 2 * bits_of (map test (drop (i + 1) xs))
-  unfolding bits_of
-  bits_split = is ∙ ap (λ (ys : List X). bits_of (map test ys)) (drop-cons xs i d below) ∙ rw add-one refl
+module _ {X : Type 0} (test : X → Bool) (xs : List X) (i : ℕ) (d : X) (bits : ℕ) (below : i < length xs) (is : bits ≡ set_of_streams (map test (drop i xs))) where
+  bits_split : bits ≡ (if test (get_or xs i d) then 1 else 0) + 2 * set_of_streams (map test (drop (i + 1) xs))
+  unfolding set_of_streams
+  bits_split = is ∙ ap (λ (ys : List X). set_of_streams (map test ys)) (drop-cons xs i d below) ∙ rw add-one refl
 
   -- whether this one was found
   pub found_here : (bits % 2 == 1) ≡ test (get_or xs i d)
-  found_here = ap (λ (n : ℕ). n % 2 == 1) bits_split ∙ bit_of_first (test (get_or xs i d)) (bits_of (map test (drop (i + 1) xs)))
+  found_here = ap (λ (n : ℕ). n % 2 == 1) bits_split ∙ bit_of_first (test (get_or xs i d)) (set_of_streams (map test (drop (i + 1) xs)))
 
   -- and the bits of the rest
-  pub found_rest : bits / 2 ≡ bits_of (map test (drop (i + 1) xs))
-  found_rest = ap (λ (n : ℕ). n / 2) bits_split ∙ bits_of_rest (test (get_or xs i d)) (bits_of (map test (drop (i + 1) xs)))
+  pub found_rest : bits / 2 ≡ set_of_streams (map test (drop (i + 1) xs))
+  found_rest = ap (λ (n : ℕ). n / 2) bits_split ∙ bits_of_rest (test (get_or xs i d)) (set_of_streams (map test (drop (i + 1) xs)))

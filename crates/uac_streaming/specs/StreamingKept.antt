@@ -18,7 +18,7 @@ pub record StreamingFields : Type 0 where
   pub ins : List ℕ
   pub met : List StreamCounts
   pub steady : steadiness.SteadyFields
-  pub sent_packet : List ℕ
+  pub sent_out_packet : List ℕ
   pub fetched_packet : List ℕ
 
 -- `Streaming` stands, beside a device, for this world

@@ -13,13 +13,13 @@ use Rattle.uac_flow.specs.FlowStreams.{is_dry, is_full}
 use Rattle.uac_ring.specs.declared.arrival.Arrival.{Arrival}
 use Rattle.uac_ring.specs.declared.arrival.Arrival.TheVariants as arrivals
 use Rattle.uac_device.specs.DeviceWorld.{DeviceWorld, arrival_in, feedback_in, frames_in, fresh, is_due_in, is_on, level_of, packet_in}
-use Rattle.uac_device.specs.DeviceWorld.{after_receiving, after_sending_packet, after_settling, target_of}
+use Rattle.uac_device.specs.DeviceWorld.{after_receiving, after_sending_in_packet, after_end, target_of}
 use Rattle.uac_host.specs.HostWorld.{HostWorld, fresh_host}
 use Rattle.uac_host.specs.HostCalls.{after_host_packet, heard_in, packet_of, size_of, with_report, with_stream}
 use Rattle.uac_script.specs.Phrase.{PhraseMark}
 use Rattle.uac_ring.specs.declared.counts.StreamCounts.{StreamCounts}
 pub use Rattle.uac_ring.specs.Meeting.{after_arrival, nothing_met, one_lost, one_missed, one_over, one_under}
-pub use Rattle.uac_script.specs.Losses.{is_at, loses_in, loses_out, loses_report, marks_in, marks_out, marks_report}
+pub use Rattle.uac_script.specs.Losses.{is_at, loses_in, loses_out, loses_feedback, marks_in, marks_out, marks_feedback}
 use Rattle.uac_transcript.specs.Transcript.{Said, says_feedback, says_frame, says_in, says_level, says_out, says_over, says_under}
 use Rattle.uac_streaming.specs.Telling.{Telling, without_event, in_turn}
 
@@ -86,8 +86,8 @@ abbrev pub packet_to : Bool → ℕ → StreamingWorld → Option (List ℕ)
 packet_to lost interface w = if lost then None else Some (packet_of w.host interface)
 
 -- the host sends a packet, which is lost or comes to the device
-unfoldable pub packet_sent : Bool → ℕ → StreamingWorld → StreamingWorld
-packet_sent lost interface w =
+unfoldable pub packet_sent_out : Bool → ℕ → StreamingWorld → StreamingWorld
+packet_sent_out lost interface w =
     let packet = packet_to lost interface w in
     record w {
       device = after_receiving interface packet w.device;
@@ -96,8 +96,8 @@ packet_sent lost interface w =
     }
 
 -- what is said of the packet that the host sends
-abbrev pub sent_lines : ℕ → Bool → ℕ → StreamingWorld → List Said
-sent_lines detail lost interface w =
+abbrev pub sent_out_lines : ℕ → Bool → ℕ → StreamingWorld → List Said
+sent_out_lines detail lost interface w =
     out_lines detail interface (size_of w.host interface) (arrival_in w.device interface (packet_to lost interface w))
 
 -- an interface runs a stream to the device that is due
@@ -109,8 +109,8 @@ unfoldable pub out_turn : ℕ → List PhraseMark → ℕ → StreamingWorld →
 out_turn detail marks interface w =
     if is_out_due w interface
     then record {
-      lines = sent_lines detail (loses_out marks interface) interface w;
-      world = packet_sent
+      lines = sent_out_lines detail (loses_out marks interface) interface w;
+      world = packet_sent_out
           (loses_out marks interface) interface w;
     }
     else without_event w
@@ -120,8 +120,8 @@ unfoldable pub outward_turn : ℕ → List PhraseMark → ℕ → StreamingWorld
 outward_turn detail marks interface w =
     if is_due_in w.device interface
     then record {
-      lines = sent_lines detail (loses_out marks interface) interface w;
-      world = packet_sent (loses_out marks interface) interface w;
+      lines = sent_out_lines detail (loses_out marks interface) interface w;
+      world = packet_sent_out (loses_out marks interface) interface w;
     }
     else without_event w
 
@@ -140,7 +140,7 @@ in_lines detail lost interface frames heard =
 -- the device sends a packet, which is lost or comes to the host
 unfoldable pub packet_fetched : Bool → ℕ → StreamingWorld → StreamingWorld
 packet_fetched lost interface w =
-    record w { device = after_sending_packet interface w.device; met = counted_at interface (λ c. if lost then one_lost c else c) w.met }
+    record w { device = after_sending_in_packet interface w.device; met = counted_at interface (λ c. if lost then one_lost c else c) w.met }
 
 -- what is said of the packet that the device sends
 abbrev pub fetched_lines : ℕ → Bool → ℕ → StreamingWorld → List Said
@@ -200,20 +200,20 @@ found_counts domain w met k =
 -- ---- the ends of microframes
 
 -- from detail 2 on the level of a stream to the device that was due is said
-abbrev pub settled_lines : ℕ → ℕ → DeviceWorld → List Said
-settled_lines detail interface w =
+abbrev pub end_lines : ℕ → ℕ → DeviceWorld → List Said
+end_lines detail interface w =
     if nat_le 2 detail && (goes_out w.function interface && is_due_in w interface)
-    then says_level interface (level_of (after_settling interface w) interface) (target_of (after_settling interface w) interface) ∷ []
+    then says_level interface (level_of (after_end interface w) interface) (target_of (after_end interface w) interface) ∷ []
     else []
 
 -- a microframe ends for an interface's stream
-unfoldable pub settled_turn : ℕ → ℕ → StreamingWorld → Telling StreamingWorld
-settled_turn detail interface w =
-    record { lines = settled_lines detail interface w.device; world = record w { device = after_settling interface w.device } }
+unfoldable pub end_turn : ℕ → ℕ → StreamingWorld → Telling StreamingWorld
+end_turn detail interface w =
+    record { lines = end_lines detail interface w.device; world = record w { device = after_end interface w.device } }
 
 -- the microframe ends for all streams, by interface number
-unfoldable pub all_settled : ℕ → StreamingWorld → Telling StreamingWorld
-all_settled detail w = in_turn (settled_turn detail) (numbers w.device.function) w
+unfoldable pub all_ends : ℕ → StreamingWorld → Telling StreamingWorld
+all_ends detail w = in_turn (end_turn detail) (numbers w.device.function) w
 
 -- ---- feedback
 
@@ -223,8 +223,8 @@ given_at None event given = given
 given_at (Some index) event given = event index given
 
 -- a report is lost, or comes to the host
-unfoldable pub report_made : Bool → ℕ → ℕ → StreamingWorld → StreamingWorld
-report_made lost value interface w =
+unfoldable pub feedback_made : Bool → ℕ → ℕ → StreamingWorld → StreamingWorld
+feedback_made lost value interface w =
     record w {
       host = if lost then w.host else with_report interface value w.host;
       met = counted_at interface (λ c. if lost then one_missed c else c) w.met;
@@ -236,15 +236,15 @@ abbrev pub feedback_lines : ℕ → Bool → ℕ → ℕ → List Said
 feedback_lines detail lost value interface = if nat_le 2 detail then says_feedback interface value lost ∷ [] else []
 
 -- a report's turn, where one of the interface's stream is due
-unfoldable pub report_turn : ℕ → List PhraseMark → ℕ → StreamingWorld → Telling StreamingWorld
-report_turn detail marks interface w =
-    let lost = loses_report marks interface in
-    option_map_or (λ value. record { lines = feedback_lines detail lost value interface; world = report_made lost value interface w })
+unfoldable pub feedback_turn : ℕ → List PhraseMark → ℕ → StreamingWorld → Telling StreamingWorld
+feedback_turn detail marks interface w =
+    let lost = loses_feedback marks interface in
+    option_map_or (λ value. record { lines = feedback_lines detail lost value interface; world = feedback_made lost value interface w })
     (feedback_in w.device interface) (without_event w)
 
 -- the reports, by interface number
-unfoldable pub all_reported : ℕ → List PhraseMark → StreamingWorld → Telling StreamingWorld
-all_reported detail marks w = in_turn (report_turn detail marks) (numbers w.device.function) w
+unfoldable pub all_feedback : ℕ → List PhraseMark → StreamingWorld → Telling StreamingWorld
+all_feedback detail marks w = in_turn (feedback_turn detail marks) (numbers w.device.function) w
 
 -- ---- starts
 

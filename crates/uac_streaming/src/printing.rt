@@ -8,7 +8,7 @@ ghost use Rattle.uac_host.specs.HostCalls.{heard_in};
 ghost use Rattle.uac_host.specs.HostKept as kept;
 ghost use Rattle.uac_transcript.specs.Printing.{Prints};
 ghost use Rattle.uac_transcript.specs.Transcript.{says_feedback, says_frame, says_in, says_out};
-ghost use Rattle.uac_device_streams.specs.InterfaceStreams.{bits_of};
+ghost use Rattle.uac_device.specs.InterfaceStreams.{set_of_streams};
 ghost use Rattle.uac_streaming.specs.FoundRings.{says_found};
 ghost use Rattle.uac_streaming.specs.StreamingWorld as spec;
 
@@ -21,7 +21,7 @@ use uac_transcript::{write_feedback, write_frame, write_in, write_out, write_ove
 
 /// Prints a packet to the device: from detail 2 on how it arrived, and at any detail that it was over.
 #[tactic(auto, using(uac_transcript::proofs::PrintingLemmas::stops))]
-pub(crate) fn write_sent<K: Sink>(
+pub(crate) fn write_sent_out<K: Sink>(
     sink: &mut K,
     detail: u8,
     interface: u8,
@@ -133,7 +133,7 @@ pub(crate) fn write_rings<K: Sink>(
     bits: u8,
     ring: FoundRing,
 ) -> Result<(), Failed>
-    ensures printed { (test : streamed.StreamInterface → Bool) → bits ≡ bits_of (map test streams.now)
+    ensures printed { (test : streamed.StreamInterface → Bool) → bits ≡ set_of_streams (map test streams.now)
         → Prints (K.written sink.old) (K.written sink.new) result (map (λ s. says_found ring s.number) (filter test streams.now)) }
     ensures cause { HasCause (K.faults sink.old) (K.faults sink.new) result }
 {
@@ -165,8 +165,8 @@ fn write_if_found<K: Sink>(
     }
 }
 
-/// Prints a report, from detail 2 on.
-pub(crate) fn write_report<K: Sink>(
+/// Prints a feedback report, from detail 2 on.
+pub(crate) fn write_feedback_at<K: Sink>(
     sink: &mut K,
     detail: u8,
     interface: u8,

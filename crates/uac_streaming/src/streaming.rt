@@ -9,8 +9,8 @@ ghost use Rattle.uac_device.specs.DeviceWorld.{DeviceWorld, arrival_in, frames_i
 ghost use Rattle.uac_topology.specs.Function.{interface_in};
 ghost use Rattle.uac_host.specs.HostCalls.{AreWhole, IsStreamOf, size_of, with_report, with_samples, with_track_tone};
 ghost use Rattle.uac_ring.specs.declared.counts.StreamCounts as counted;
-ghost use Rattle.uac_streaming.specs.StreamingWorld.{StreamingWorld, after_following, found_counts, packet_fetched, packet_sent, packet_to};
-ghost use Rattle.uac_streaming.specs.StreamingWorld.{report_made, streaming_start};
+ghost use Rattle.uac_streaming.specs.StreamingWorld.{StreamingWorld, after_following, found_counts, packet_fetched, packet_sent_out, packet_to};
+ghost use Rattle.uac_streaming.specs.StreamingWorld.{feedback_made, streaming_start};
 ghost use Rattle.uac_streaming.specs.StreamingWorld as spec;
 ghost use Rattle.uac_streaming.specs.StreamingKept.{StreamingStands};
 
@@ -43,7 +43,7 @@ pub struct Streaming {
     steady: Steady,
     /// The last packet to the device, and the last that was fetched from it. Each is written by its own direction alone, so that a packet
     /// as long as the one before it needs no other size. They lie in boxes, since a value that is moved takes its bytes of the stack anew.
-    sent_packet: Box<Packet>,
+    sent_out_packet: Box<Packet>,
     pub(crate) fetched_packet: Box<Packet>,
     /// The last frame that the host heard.
     pub(crate) frame: Frame,
@@ -61,14 +61,14 @@ impl Model for Streaming {
       ins = s.ins.items;
       met = s.met.items;
       steady = s.steady;
-      sent_packet = s.sent_packet.value.items;
+      sent_out_packet = s.sent_out_packet.value.items;
       fetched_packet = s.fetched_packet.value.items;
     } };
 }
 
 /// A packet that was sent to the device: its frames, and how it arrived.
 #[derive(Clone, Copy, Debug, PartialEq, Eq)]
-pub(crate) struct Sent {
+pub(crate) struct SentOut {
     pub(crate) frames: u32,
     pub(crate) arrival: Arrival,
 }
@@ -91,7 +91,7 @@ impl Streaming {
             ins,
             met,
             steady: Steady::new(),
-            sent_packet: Box::new(alloc, Packet::new())?,
+            sent_out_packet: Box::new(alloc, Packet::new())?,
             fetched_packet: Box::new(alloc, Packet::new())?,
             frame: Frame::new(),
         })
@@ -99,14 +99,6 @@ impl Streaming {
 
     /// Lets all go that the host's streams hold. A caller that ends so needs no proof of its own of how each part is let go.
     pub fn let_go(self) {}
-
-    /// What the streams of the interface at an index met, in block order.
-    pub fn stream_counts(&self, index: usize) -> StreamCounts
-        requires { index < length self.now.met }
-        ensures { slice_get self.now.met index ≡ Some result }
-    {
-        self.met[index]
-    }
 
     /// Whether all that was given is steady: no deviation passed a thousandth, and no stream lost four feedback reports in succession.
     pub fn is_steady(&self) -> bool
@@ -166,12 +158,12 @@ impl Streaming {
     {
         self.host.set_stream(interface, begun);
         if begun.is_some() {
-            self.start_reports(function, interface);
+            self.start_feedback(function, interface);
         }
     }
 
     /// The reports of an interface begin anew.
-    fn start_reports(&mut self, function: &Function, interface: u8)
+    fn start_feedback(&mut self, function: &Function, interface: u8)
         requires { length function.now.streams ≤ 8 }
         ensures { (d : devices.DeviceFields) (w : StreamingWorld) → StreamingStands self.old d w → w.device.function ≡ function.now
             → StreamingStands self.new d (record w
@@ -184,19 +176,19 @@ impl Streaming {
     }
 
     /// The host sends a packet to the device, unless it is lost.
-    pub(crate) fn send(&mut self, device: &mut Device, interface: u8, lost: bool) -> Sent
+    pub(crate) fn send_out(&mut self, device: &mut Device, interface: u8, lost: bool) -> SentOut
         ensures stands { (w : StreamingWorld) → StreamingStands self.old device.old w
-            → StreamingStands self.new device.new (packet_sent lost interface w) }
+            → StreamingStands self.new device.new (packet_sent_out lost interface w) }
         ensures frames { (w : StreamingWorld) → StreamingStands self.old device.old w → result.frames ≡ size_of w.host interface }
         ensures arrival { (w : StreamingWorld) → StreamingStands self.old device.old w
             → result.arrival ≡ arrival_in w.device interface (packet_to lost interface w) }
         ensures function { device.new.function ≡ device.old.function }
         ensures order { self.new.outs ≡ self.old.outs }
     {
-        let frames = self.host.packet(interface, &mut self.sent_packet);
-        let arrival = arrive(device, interface, &*self.sent_packet, lost);
+        let frames = self.host.packet(interface, &mut self.sent_out_packet);
+        let arrival = arrive(device, interface, &*self.sent_out_packet, lost);
         self.count_arrival(device.function(), interface, arrival);
-        Sent { frames, arrival }
+        SentOut { frames, arrival }
     }
 
     /// The device sends a packet, which is kept, unless it is lost. Answers the number of its frames.
@@ -215,7 +207,7 @@ impl Streaming {
     }
 
     /// A tick found these rings empty and full.
-    pub fn find(&mut self, function: &Function, found: Ticked)
+    pub fn count_met(&mut self, function: &Function, found: Ticked)
         ensures { (d : devices.DeviceFields) (w : StreamingWorld) (before : DeviceWorld) (clock : ℕ) → StreamingStands self.old d w
             → w.device.function ≡ function.now → before.function ≡ function.now → found ≡ met_of clock before
             → StreamingStands self.new d (record w { met = found_counts clock before w.met }) }
@@ -223,16 +215,22 @@ impl Streaming {
         count_found(&mut self.met, found);
     }
 
-    /// A report comes to the host, unless it is lost.
-    pub(crate) fn report(&mut self, function: &Function, interface: u8, value: u32, lost: bool)
+    /// A feedback report comes to the host, unless it is lost.
+    pub(crate) fn bring_feedback(
+        &mut self,
+        function: &Function,
+        interface: u8,
+        value: u32,
+        lost: bool,
+    )
         ensures stands { (d : devices.DeviceFields) (w : StreamingWorld) → StreamingStands self.old d w → w.device.function ≡ function.now
-            → StreamingStands self.new d (report_made lost value interface w) }
+            → StreamingStands self.new d (feedback_made lost value interface w) }
         ensures order { self.new.order ≡ self.old.order }
     {
         functions_are_sound(function);
         sound_functions_are_small();
         self.take_report(interface, value, lost);
-        self.count_report(function, interface, lost);
+        self.count_feedback(function, interface, lost);
         self.count_missed(function, interface, lost);
     }
 
@@ -249,7 +247,7 @@ impl Streaming {
     }
 
     /// One more report of an interface is known to be lost, or to have come.
-    fn count_report(&mut self, function: &Function, interface: u8, lost: bool)
+    fn count_feedback(&mut self, function: &Function, interface: u8, lost: bool)
         requires { length function.now.streams ≤ 8 }
         ensures stands { (d : devices.DeviceFields) (w : StreamingWorld) → StreamingStands self.old d w → w.device.function ≡ function.now
             → StreamingStands self.new d (record w {

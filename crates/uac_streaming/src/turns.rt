@@ -2,21 +2,23 @@
 ghost use Rattle.std.specs.Prelude.{◌≡◌, ◌&&◌, ◌<◌, nat_le, ℕ, length, map};
 ghost use Rattle.uac_edges.specs.Faults.{HasCause};
 ghost use Rattle.uac_script.specs.Line.{phrase_mark};
-ghost use Rattle.uac_device.specs.DeviceWorld.{DeviceWorld, ZerosFitIn, is_due_in, met_of, after_settling};
+ghost use Rattle.uac_device.specs.DeviceWorld.{DeviceWorld, ZerosFitIn, is_due_in, met_of, after_end};
 ghost use Rattle.uac_device.specs.DeviceKept as device_kept;
 ghost use Rattle.uac_transcript.specs.Printing.{Prints};
-ghost use Rattle.uac_streaming.specs.StreamingWorld.{StreamingWorld, all_reported, all_settled, found_lines, in_packets};
-ghost use Rattle.uac_streaming.specs.StreamingWorld.{inward_turn, out_packets, outward_turn, report_turn, settled_turn};
+ghost use Rattle.uac_streaming.specs.StreamingWorld.{StreamingWorld, all_feedback, all_ends, found_lines, in_packets};
+ghost use Rattle.uac_streaming.specs.StreamingWorld.{inward_turn, out_packets, outward_turn, feedback_turn, end_turn};
 ghost use Rattle.uac_streaming.specs.StreamingWorld as spec;
 ghost use Rattle.uac_streaming.specs.StreamingKept.{StreamingStands, StreamingTells};
 
-use crate::printing::{Fetched, FoundRing, write_fetched, write_report, write_rings, write_sent};
+use crate::printing::{
+    Fetched, FoundRing, write_feedback_at, write_fetched, write_rings, write_sent_out,
+};
 use crate::streaming::Streaming;
 use crate::ways::goes_out;
 use uac_device::{Device, Ticked};
 use uac_edges::{Failed, Sink};
 use uac_entities::StreamInterface;
-use uac_script::{Mark, loses_in, loses_out, loses_report};
+use uac_script::{Mark, loses_feedback, loses_in, loses_out};
 use uac_transcript::write_level;
 
 impl Streaming {
@@ -61,8 +63,8 @@ impl Streaming {
         if !device.due(interface) {
             return Ok(());
         }
-        let sent = self.send(device, interface, loses_out(marks, interface));
-        write_sent(sink, detail, interface, sent.frames, sent.arrival)
+        let sent = self.send_out(device, interface, loses_out(marks, interface));
+        write_sent_out(sink, detail, interface, sent.frames, sent.arrival)
     }
 
     /// The packets from the device of a microframe, by interface number, with these losses.
@@ -124,26 +126,26 @@ impl Streaming {
 
     /// A microframe ends for each stream, by interface number. Where a packet to the device was lost, its ring has room for the zeros
     /// that are due.
-    pub fn settle<K: Sink>(
+    pub fn end_microframe<K: Sink>(
         &mut self,
         device: &mut Device,
         detail: u8,
         sink: &mut K,
     ) -> Result<(), Failed>
         ensures tells { (w : StreamingWorld) → StreamingStands self.old device.old w → ((interface : ℕ) → ZerosFitIn w.device interface)
-            → StreamingTells (all_settled detail w) self.new device.new (K.written sink.old) (K.written sink.new) result }
+            → StreamingTells (all_ends detail w) self.new device.new (K.written sink.old) (K.written sink.new) result }
         ensures function { device.new.function ≡ device.old.function }
         ensures cause { HasCause (K.faults sink.old) (K.faults sink.new) result }
     {
         for at in 0..self.order.len() {
             let interface = self.order[at];
-            settle_one(device, interface, detail, sink)?;
+            end_one(device, interface, detail, sink)?;
         }
         Ok(())
     }
 
     /// The feedback reports of a microframe, by interface number, with these losses.
-    pub fn reports<K: Sink>(
+    pub fn give_feedback<K: Sink>(
         &mut self,
         device: &Device,
         detail: u8,
@@ -151,20 +153,20 @@ impl Streaming {
         sink: &mut K,
     ) -> Result<(), Failed>
         ensures tells { (w : StreamingWorld) → StreamingStands self.old device.now w
-            → StreamingTells (all_reported detail (map phrase_mark marks.now) w) self.new device.now (K.written sink.old)
+            → StreamingTells (all_feedback detail (map phrase_mark marks.now) w) self.new device.now (K.written sink.old)
             (K.written sink.new)
             result }
         ensures cause { HasCause (K.faults sink.old) (K.faults sink.new) result }
     {
         for at in 0..self.order.len() {
             let interface = self.order[at];
-            self.report_one(device, interface, detail, marks, sink)?;
+            self.give_feedback_on(device, interface, detail, marks, sink)?;
         }
         Ok(())
     }
 
     /// The feedback report of an interface, where one is due.
-    fn report_one<K: Sink>(
+    fn give_feedback_on<K: Sink>(
         &mut self,
         device: &Device,
         interface: u8,
@@ -173,7 +175,7 @@ impl Streaming {
         sink: &mut K,
     ) -> Result<(), Failed>
         ensures tells { (w : StreamingWorld) → StreamingStands self.old device.now w
-            → StreamingTells (report_turn detail (map phrase_mark marks.now) interface w) self.new device.now (K.written sink.old)
+            → StreamingTells (feedback_turn detail (map phrase_mark marks.now) interface w) self.new device.now (K.written sink.old)
             (K.written sink.new) result }
         ensures order { self.new.order ≡ self.old.order }
         ensures cause { HasCause (K.faults sink.old) (K.faults sink.new) result }
@@ -181,22 +183,22 @@ impl Streaming {
         let Some(value) = device.feedback(interface) else {
             return Ok(());
         };
-        let lost = loses_report(marks, interface);
-        self.report(device.function(), interface, value, lost);
-        write_report(sink, detail, interface, value, lost)
+        let lost = loses_feedback(marks, interface);
+        self.bring_feedback(device.function(), interface, value, lost);
+        write_feedback_at(sink, detail, interface, value, lost)
     }
 }
 
 /// A microframe ends for the stream of an interface.
-fn settle_one<K: Sink>(
+fn end_one<K: Sink>(
     device: &mut Device,
     interface: u8,
     detail: u8,
     sink: &mut K,
 ) -> Result<(), Failed>
     ensures tells { (w : DeviceWorld) → device_kept.DeviceStands device.old w → ZerosFitIn w interface
-        → Prints (K.written sink.old) (K.written sink.new) result (spec.settled_lines detail interface w)
-        × device_kept.DeviceStands device.new (after_settling interface w) }
+        → Prints (K.written sink.old) (K.written sink.new) result (spec.end_lines detail interface w)
+        × device_kept.DeviceStands device.new (after_end interface w) }
     ensures function { device.new.function ≡ device.old.function }
     ensures cause { HasCause (K.faults sink.old) (K.faults sink.new) result }
 {

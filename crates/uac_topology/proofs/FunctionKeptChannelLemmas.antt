@@ -3,8 +3,8 @@ use Rattle.std.proofs.Common.{◌≡◌, ◌∙◌, sym, ap, subst, refl, arith,
 use Rattle.std.specs.List.{list_any}
 use Rattle.std.specs.Option.{option_map, option_map_or, is_none}
 use Rattle.std.proofs.lemmas.Bool.{or_parts, ltb-false}
-use Rattle.uac_walk.specs.Walk.{links, has_walk}
-use Rattle.uac_walk.proofs.WalkLemmas.{none_at}
+use Rattle.uac_topology_rules.specs.Walk.{links, has_walk}
+use Rattle.uac_topology_rules.proofs.WalkLemmas.{none_at}
 use Rattle.uac_descriptor.specs.declared.context.Context.TheVariants as context
 use Rattle.uac_entities.specs.Entities.{entities_of, no_cluster}
 use Rattle.uac_entities.specs.declared.entity.Cluster.{Cluster}

@@ -4,7 +4,7 @@ use Rattle.std.specs.Prelude.{unwrap_or}
 use Rattle.std.specs.List.{All, AllByRecursion, IsDistinct, filter_map, cons_option, range_with_len}
 use Rattle.std.proofs.lemmas.Bool.{eqb-false, true≢false}
 use Rattle.std.proofs.lemmas.Map.Keys.{IsDistinct-cons}
-use Rattle.uac_walk.proofs.CountLemmas.{IsDistinct-from_times}
+use Rattle.uac_topology_rules.proofs.CountLemmas.{IsDistinct-from_times}
 use Rattle.uac_descriptor.specs.Classes.{is_control_interface, is_streaming_interface}
 use Rattle.uac_descriptor.specs.BlockTurns.{is_of_function, Begins, Continues, InTurn, interfaces_in, BeginsWithControl}
 use Rattle.uac_descriptor.specs.declared.context.Context.TheVariants as context

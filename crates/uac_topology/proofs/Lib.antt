@@ -10,3 +10,6 @@ pub mod FunctionKeptRangeLemmas
 pub mod FunctionKeptLinkLemmas
 pub mod FunctionKeptNumberLemmas
 pub mod FunctionFoundLemmas
+-- What a descriptor's bytes come to.
+pub mod ConfigurationLemmas
+pub mod DescriptionLemmas

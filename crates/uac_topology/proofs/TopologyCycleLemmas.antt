@@ -3,7 +3,7 @@ use Rattle.std.proofs.Common.{◌≡◌, ◌⊎◌, Bool, ℕ, ◌<◌, ◌≤�
 use Rattle.std.specs.Option.{option_map, option_or}
 use Rattle.std.proofs.lemmas.Option.{none-some, same_Some}
 use Rattle.uac_descriptor.specs.declared.block.Block as block
-use Rattle.uac_walk.specs.Cycles.{HasCycle}
+use Rattle.uac_topology_rules.specs.Cycles.{HasCycle}
 use Rattle.uac_entities.specs.Entities.{entities_of}
 use Rattle.uac_entities.specs.EntitySettings.{declared_settings}
 use Rattle.uac_entities.specs.declared.settings.DeclaredSetting.{DeclaredSetting}
@@ -17,7 +17,7 @@ use Rattle.uac_topology_rules.specs.RuleFaults.{of_entity, of_interface, broken_
 use Rattle.uac_topology_rules.specs.LinkCycles.{HasNoCycle, IsSignalFault, IsClockFault}
 use Rattle.uac_topology_rules.proofs.LinkCyclesLemmas.{cycles_are_named}
 use Rattle.uac_topology_rules.proofs.LinksLemmas.{or_none}
-use Rattle.uac_walk.proofs.CyclesLemmas as walks
+use Rattle.uac_topology_rules.proofs.CyclesLemmas as walks
 use Rattle.uac_topology.specs.Topology.{first_fault_of, streams_in, SoundHasNoCycle, IsRefusedBy, CyclesAreRefused}
 
 pub sound_has_no_cycle : SoundHasNoCycle

@@ -7,7 +7,7 @@ use Rattle.uac_descriptor.specs.WellFormed.{AreWellFormed}
 use Rattle.uac_descriptor.specs.declared.block.Block as block
 use Rattle.uac_descriptor.specs.Kinds.{as_configuration}
 use Rattle.uac_descriptor.specs.BlockTurns.{interface_of}
-use Rattle.uac_walk.specs.Cycles.{HasCycle}
+use Rattle.uac_topology_rules.specs.Cycles.{HasCycle}
 use Rattle.uac_entities.specs.Entities.{entities_of}
 use Rattle.uac_entities.specs.EntitySettings.{declared_settings}
 use Rattle.uac_entities.specs.EntityInterfaces.{streaming_interfaces_of}

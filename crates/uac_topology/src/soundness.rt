@@ -40,7 +40,7 @@ enum Judged {
 
 /// The audio function of the blocks, exactly where every rule holds; else the least broken rule with its first
 /// offender in block order, or want of memory. The blocks that a reader gives are well-formed
-/// (`uac_sentence::laws::sentences_are_well_formed`), and of others `uac_sentence::are_well_formed` tells.
+/// (`uac_grammar_rules::laws::sentences_are_well_formed`), and of others `uac_grammar_rules::are_well_formed` tells.
 pub fn check(alloc: Global, blocks: &[Block]) -> Result<Function, CheckStop>
     requires { AreWellFormed blocks.now }
     ensures sound { IfOk result (λ function. IsSound blocks.now × IsFunctionOf function blocks.now) }

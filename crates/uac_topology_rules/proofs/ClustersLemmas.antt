@@ -5,8 +5,8 @@ use Rattle.std.specs.List.{flat_map}
 use Rattle.std.specs.Option.{option_map_or}
 use Rattle.std.proofs.Common.{zero-add}
 use Rattle.std.proofs.Math.Nat.{suc-add}
-use Rattle.uac_walk.proofs.WalkLemmas.{no_longer, none_at}
-use Rattle.uac_walk.specs.Walk.{links, has_walk}
+use Rattle.uac_topology_rules.proofs.WalkLemmas.{no_longer, none_at}
+use Rattle.uac_topology_rules.specs.Walk.{links, has_walk}
 use Rattle.uac_entities.specs.Entities.{no_cluster}
 use Rattle.uac_entities.specs.declared.entity.Cluster.{Cluster}
 use Rattle.uac_entities.specs.declared.entity.Entity.{Entity}

@@ -1,6 +1,7 @@
 -- The headset, a worked example: its entities, domains and streams, and which rule its edits break.
 use Rattle.std.proofs.Common.{◌≡◌, ℕ, ◌++◌, true, false, List, [], ◌∷◌, Option, Some, None, length, take, drop, map, refl, suc}
 use Rattle.uac_descriptor.specs.Classes.{is_streaming_interface}
+use Rattle.uac_descriptor.proofs.Headset.{headset_blocks}
 use Rattle.uac_descriptor.specs.declared.block.Block as block
 use Rattle.uac_descriptor.specs.declared.block.Block.TheVariants as row
 use Rattle.uac_entities.specs.Entities.{entity_of, entities_of}
@@ -8,7 +9,7 @@ use Rattle.uac_entities.specs.EntitySettings.{declared_settings, declared_settin
 use Rattle.uac_entities.specs.EntityInterfaces.{streaming_interfaces_of, streaming_interface_at, streaming_interface_of, setting_on_interface, link_of, entity_by_id}
 use Rattle.uac_topology_rules.specs.declared.fault.TopologyFault.{TopologyFault}
 use lib.Count.{ones, ones_in}
-use Rattle.uac_walk.specs.Walk.{has_walk}
+use Rattle.uac_topology_rules.specs.Walk.{has_walk}
 use Rattle.uac_topology_rules.specs.Table.{at, first_index_of, index_of, kind_of}
 use Rattle.uac_topology_rules.specs.Links.{signal_sources, clock_sources}
 use Rattle.uac_topology_rules.specs.Clusters.{cluster_step, cluster_within, cluster_of, pins, clocks_step, clocks_within, clocks_of, with_own_clusters}
@@ -41,36 +42,7 @@ fault_of : List block.Block → Option TopologyFault
 fault_of blocks = rule_fault (entities_of blocks) (declared_settings blocks) (streaming_interfaces_of (entities_of blocks) (declared_settings blocks))
 
 headset : List block.Block
-headset =
-    row.Foreign (18 ∷ 1 ∷ 0 ∷ 2 ∷ 239 ∷ 2 ∷ 1 ∷ 64 ∷ 52 ∷ 18 ∷ 120 ∷ 86 ∷ 0 ∷ 1 ∷ 1 ∷ 2 ∷ 0 ∷ 1 ∷ [])
-    ∷ row.Configuration (record { total = 275; interfaces = 4; value = 1; name = 0; attributes = 128; power = 50 })
-    ∷ row.Association (record { first = 0; count = 3; class = 1; subclass = 0; protocol = 32; name = 0 })
-    ∷ row.Interface (record { number = 0; setting = 0; endpoints = 0; class = 1; subclass = 1; protocol = 32; name = 0 })
-    ∷ row.Header (record { version = 512; category = 4; total = 107; controls = 0 })
-    ∷ row.ClockSource (record { id = 1; attributes = 3; controls = 7; assoc = 0; name = 0 })
-    ∷ row.InputTerminal (record { id = 2; terminal_type = 257; assoc = 0; clock = 1; channels = 2; locations = 3; names = 0; controls = 0; name = 0 })
-    ∷ row.Feature (record { id = 3; source = 2; words = 3 ∷ 12 ∷ 12 ∷ []; name = 0 })
-    ∷ row.OutputTerminal (record { id = 4; terminal_type = 770; assoc = 0; source = 3; clock = 1; controls = 0; name = 0 })
-    ∷ row.InputTerminal (record { id = 5; terminal_type = 513; assoc = 0; clock = 1; channels = 1; locations = 0; names = 0; controls = 0; name = 0 })
-    ∷ row.Feature (record { id = 6; source = 5; words = 3 ∷ 12 ∷ []; name = 0 })
-    ∷ row.OutputTerminal (record { id = 7; terminal_type = 257; assoc = 0; source = 6; clock = 1; controls = 0; name = 0 })
-    ∷ row.Interface (record { number = 1; setting = 0; endpoints = 0; class = 1; subclass = 2; protocol = 32; name = 0 })
-    ∷ row.Interface (record { number = 1; setting = 1; endpoints = 2; class = 1; subclass = 2; protocol = 32; name = 0 })
-    ∷ row.General (record { link = 2; controls = 5; format_type = 1; formats = 1; channels = 2; locations = 3; names = 0 })
-    ∷ row.TypeOne (record { subslot = 3; bits = 24 })
-    ∷ row.Endpoint (record { address = 1; attributes = 5; max_packet = 150; interval = 1 })
-    ∷ row.ClassEndpoint (record { attributes = 0; controls = 0; lock_units = 0; lock_delay = 0 })
-    ∷ row.Endpoint (record { address = 129; attributes = 17; max_packet = 4; interval = 4 })
-    ∷ row.Interface (record { number = 2; setting = 0; endpoints = 0; class = 1; subclass = 2; protocol = 32; name = 0 })
-    ∷ row.Interface (record { number = 2; setting = 1; endpoints = 1; class = 1; subclass = 2; protocol = 32; name = 0 })
-    ∷ row.General (record { link = 7; controls = 5; format_type = 1; formats = 1; channels = 1; locations = 0; names = 0 })
-    ∷ row.TypeOne (record { subslot = 2; bits = 16 })
-    ∷ row.Endpoint (record { address = 130; attributes = 5; max_packet = 50; interval = 1 })
-    ∷ row.ClassEndpoint (record { attributes = 0; controls = 0; lock_units = 0; lock_delay = 0 })
-    ∷ row.Interface (record { number = 3; setting = 0; endpoints = 1; class = 3; subclass = 0; protocol = 0; name = 0 })
-    ∷ row.Foreign (9 ∷ 33 ∷ 17 ∷ 1 ∷ 0 ∷ 1 ∷ 34 ∷ 25 ∷ 0 ∷ [])
-    ∷ row.Foreign (7 ∷ 5 ∷ 131 ∷ 3 ∷ 4 ∷ 0 ∷ 10 ∷ [])
-    ∷ []
+headset = headset_blocks
 
 -- the block at an index changed
 with_change : ℕ → block.Block → List block.Block → List block.Block

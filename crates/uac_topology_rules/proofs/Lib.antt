@@ -1,9 +1,15 @@
+pub mod CountLemmas
+pub mod WalkLemmas
+pub mod CyclesLemmas
+pub mod NotingLemmas
+pub mod NodeReleasingStepLemmas
+pub mod NodeReleasingLemmas
 pub mod ListFindLemmas
 pub mod TableIdLemmas
 pub mod RuleFaultsLemmas
 pub mod LinksLemmas
 pub mod LinkCyclesLemmas
-pub mod WalksLemmas
+pub mod WalkRulesLemmas
 pub mod ClustersLemmas
 pub mod SignalsOrderLemmas
 pub mod SignalsLemmas

@@ -4,10 +4,10 @@ use Rattle.std.specs.Option.{option_or}
 use Rattle.std.proofs.lemmas.Bool.{cases_Bool, cases_eq, both_ways}
 use Rattle.std.proofs.lemmas.List.{length-map}
 use Rattle.std.proofs.lemmas.Option.{none-some, same_Some}
-use Rattle.uac_walk.specs.Walk.{has_walk}
-use Rattle.uac_walk.specs.Order.{IsClosed}
-use Rattle.uac_walk.specs.Cycles.{ComesRound, HasCycle}
-use Rattle.uac_walk.proofs.CyclesLemmas as walks
+use Rattle.uac_topology_rules.specs.Walk.{has_walk}
+use Rattle.uac_topology_rules.specs.Order.{IsClosed}
+use Rattle.uac_topology_rules.specs.Cycles.{ComesRound, HasCycle}
+use Rattle.uac_topology_rules.proofs.CyclesLemmas as walks
 use Rattle.uac_entities.specs.declared.entity.Entity.{Entity}
 use Rattle.uac_topology_rules.specs.declared.fault.TopologyFault.{TopologyFault}
 use Rattle.uac_topology_rules.specs.Table.{at}

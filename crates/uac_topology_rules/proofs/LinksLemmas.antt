@@ -4,9 +4,9 @@ use Rattle.std.specs.List.{All}
 use Rattle.std.specs.Option.{option_or, option_map, is_none}
 use Rattle.std.proofs.lemmas.Bool.{or_parts, true≢false}
 use Rattle.std.proofs.lemmas.List.{get_or-map, length-map}
-use Rattle.uac_walk.specs.Walk.{links}
-use Rattle.uac_walk.specs.Order.{IsClosed}
-use Rattle.uac_walk.proofs.WalkLemmas.{none_at}
+use Rattle.uac_topology_rules.specs.Walk.{links}
+use Rattle.uac_topology_rules.specs.Order.{IsClosed}
+use Rattle.uac_topology_rules.proofs.WalkLemmas.{none_at}
 use Rattle.uac_entities.specs.declared.entity.Entity.{Entity}
 use Rattle.uac_topology_rules.specs.Table.{first_index_of, index_of, at, nothing, kind_of}
 use Rattle.uac_topology_rules.specs.Links.{signal_sources, clock_sources, signal_links, clock_links}

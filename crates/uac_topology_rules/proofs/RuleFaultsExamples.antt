@@ -8,7 +8,7 @@ use Rattle.uac_entities.specs.EntitySettings.{declared_settings, declared_settin
 use Rattle.uac_entities.specs.EntityInterfaces.{streaming_interfaces_of, streaming_interface_at, streaming_interface_of, setting_on_interface, link_of, entity_by_id}
 use Rattle.uac_topology_rules.specs.declared.fault.TopologyFault.{TopologyFault}
 use lib.Count.{ones, ones_in}
-use Rattle.uac_walk.specs.Walk.{has_walk}
+use Rattle.uac_topology_rules.specs.Walk.{has_walk}
 use Rattle.uac_topology_rules.specs.Table.{at, first_index_of, index_of, kind_of}
 use Rattle.uac_topology_rules.specs.Links.{signal_sources, clock_sources}
 use Rattle.uac_topology_rules.specs.Clusters.{cluster_step, cluster_within, cluster_of, pins, clocks_step, clocks_within, clocks_of}

@@ -2,7 +2,7 @@
 use Rattle.std.proofs.Common.{◌≡◌, ◌<◌, ℕ, List, [], ◌∷◌, Option, None, suc, length, get_or, map, refl, sym, ap, ◌∙◌, subst, arith}
 use Rattle.std.specs.List.{All}
 use Rattle.std.proofs.lemmas.List.{length-map, get_or_read}
-use Rattle.uac_walk.specs.Walk.{links}
+use Rattle.uac_topology_rules.specs.Walk.{links}
 use Rattle.uac_entities.specs.Entities.{no_cluster}
 use Rattle.uac_entities.specs.declared.entity.Cluster.{Cluster}
 use Rattle.uac_entities.specs.declared.entity.Entity.{Entity}
@@ -11,7 +11,7 @@ use Rattle.uac_topology_rules.specs.declared.signals.Behind.{Behind}
 use Rattle.uac_topology_rules.specs.Clusters.{cluster_of, pins}
 use Rattle.uac_topology_rules.specs.Rules.{breaks_u6}
 use Rattle.uac_topology_rules.specs.RuleFaults.{broken_names, broken_walks}
-use Rattle.uac_topology_rules.specs.Walks.{IsWalked}
+use Rattle.uac_topology_rules.specs.WalkRules.{IsWalked}
 use Rattle.uac_topology_rules.specs.Signals.{IsAcyclic, IsWalkable, IsKnown, AreClusters, AreClocks}
 use Rattle.uac_topology_rules.proofs.RuleFaultsLemmas.{breaks_none}
 use Rattle.uac_topology_rules.proofs.LinksLemmas.{or_none, signal_closed}

@@ -3,7 +3,7 @@ use Rattle.std.proofs.Common.{◌≡◌, ◌==◌, ◌<◌, ℕ, ◌+◌, true, 
 use Rattle.std.specs.List.{list_any}
 use Rattle.std.proofs.lemmas.Bool.{cases_eq, eqb-true}
 use Rattle.std.proofs.lemmas.List.{get_or-set_same, get_or-set_other, length-set, length-map}
-use Rattle.uac_walk.specs.Walk.{links, has_walk}
+use Rattle.uac_topology_rules.specs.Walk.{links, has_walk}
 use Rattle.uac_entities.specs.Entities.{no_cluster}
 use Rattle.uac_entities.specs.declared.entity.Cluster.{Cluster}
 use Rattle.uac_entities.specs.declared.entity.Entity.{Entity}

@@ -1,6 +1,6 @@
 -- Whom the rules U6 and U7 name (profile): the first entity in block order from which links come round.
 use Rattle.std.specs.Prelude.{◌≡◌, ◌↔◌, ◌⊎◌, ℕ, ◌<◌, false, List, Some, None, length}
-use Rattle.uac_walk.specs.Cycles.{ComesRound, HasCycle}
+use Rattle.uac_topology_rules.specs.Cycles.{ComesRound, HasCycle}
 use Rattle.uac_entities.specs.declared.entity.Entity.{Entity}
 use Rattle.uac_topology_rules.specs.declared.fault.TopologyFault.{TopologyFault}
 use Rattle.uac_topology_rules.specs.Table.{at}

@@ -4,7 +4,7 @@ use Rattle.std.specs.Prelude.{ℕ, ◌+◌, ◌*◌, ◌/◌, Bool, true, false,
 use Rattle.std.specs.Prelude.{length, take, slice_get, is_none, count_ones}
 use Rattle.std.specs.List.{list_any}
 use Rattle.std.specs.Option.{option_map_or}
-use Rattle.uac_walk.specs.Walk.{has_walk}
+use Rattle.uac_topology_rules.specs.Walk.{has_walk}
 use Rattle.uac_descriptor.specs.Endpoints.{transfer_type, usage_type}
 use Rattle.uac_descriptor.specs.declared.standard.Endpoint.{Endpoint}
 use Rattle.uac_entities.specs.EntityInterfaces.{links_of}

@@ -1,7 +1,7 @@
 -- What is found along the signal links.
 use Rattle.std.specs.Prelude.{◌≡◌, ℕ, ◌<◌, false, List, length, slice_index, slice_index_or}
-use Rattle.uac_walk.specs.Walk.{has_walk}
-use Rattle.uac_walk.specs.Order.{IsClosed, IsOrder}
+use Rattle.uac_topology_rules.specs.Walk.{has_walk}
+use Rattle.uac_topology_rules.specs.Order.{IsClosed, IsOrder}
 use Rattle.uac_entities.specs.Entities.{no_cluster}
 use Rattle.uac_entities.specs.declared.entity.Cluster.{Cluster}
 use Rattle.uac_entities.specs.declared.entity.Entity.{Entity}

@@ -3,11 +3,11 @@ ghost use Rattle.std.specs.Prelude.{◌≡◌, IfOk, map};
 ghost use Rattle.uac_topology_rules.specs.Table.{index_of};
 ghost use Rattle.uac_topology_rules.specs.Links.{signal_links, clock_links};
 
+use crate::links::Links;
 use crate::names::{clock_sources, signal_sources};
 use crate::table::EntityTable;
 use std::alloc::Global;
 use uac_descriptor::NoMemory;
-use uac_walk::Links;
 
 /// For each entity the indices of its signal sources.
 pub(crate) fn signal_graph(alloc: Global, table: &EntityTable) -> Result<Vec<Links>, NoMemory>

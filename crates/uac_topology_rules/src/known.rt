@@ -6,8 +6,9 @@ ghost use Rattle.uac_topology_rules.specs.Table.{at};
 ghost use Rattle.uac_topology_rules.specs.Clusters as spec;
 ghost use Rattle.uac_topology_rules.specs.Rules as rules;
 ghost use Rattle.uac_topology_rules.specs.RuleFaults.{broken_names};
-ghost use Rattle.uac_topology_rules.specs.Walks.{IsWalked};
+ghost use Rattle.uac_topology_rules.specs.WalkRules.{IsWalked};
 
+use crate::links::Links;
 use crate::signals::{Behind, clocks_of, clusters_of, differs};
 use crate::table::EntityTable;
 use crate::walks::Walked;
@@ -15,7 +16,6 @@ use std::alloc::Global;
 use std::marker::Model;
 use uac_descriptor::NoMemory;
 use uac_entities::{Cluster, Entity};
-use uac_walk::Links;
 
 /// The entities of a function whose names and walks are in order, with the cluster that each puts out.
 #[derive(Drop)]

@@ -1,5 +1,11 @@
-//! The rules of an audio function's topology: which entity or streaming interface breaks which rule.
+//! The rules of an audio function's topology: which entity or streaming interface breaks which rule; and walks along links, by which
+//! the rules on cycles are judged.
 #![tactic(auto)]
+
+/// The nodes that one node names.
+mod links;
+/// The order, found by counting the links that still wait.
+mod order;
 
 /// The rules by name.
 mod rule;
@@ -37,6 +43,7 @@ pub use ends::ends_fault;
 pub use fault::TopologyFault;
 pub use kinds::{is_clock, is_output};
 pub use known::Known;
+pub use links::Links;
 pub use names::names_fault;
 pub use shapes::{entity_limit, shapes_fault};
 pub use signals::Behind;

@@ -10,11 +10,11 @@ ghost use Rattle.uac_topology_rules.specs.declared.signals.Behind.TheVariants as
 ghost use Rattle.uac_topology_rules.specs.Signals.{AreClusters, AreClocks, IsWalkable};
 
 use crate::kinds::{has_own_cluster, is_clock};
+use crate::links::Links;
 use crate::table::EntityTable;
 use std::alloc::Global;
 use uac_descriptor::NoMemory;
 use uac_entities::{Cluster, Entity, EntityKind};
-use uac_walk::Links;
 
 /// No channels.
 const NO_CLUSTER: Cluster = Cluster {

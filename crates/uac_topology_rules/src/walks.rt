@@ -1,17 +1,18 @@
 // The rules on walks, U6 and U7.
 ghost use Rattle.std.specs.Prelude.{◌≡◌, None, IfOk, length};
-ghost use Rattle.uac_walk.specs.Order.{IsClosed, IsOrder};
+ghost use Rattle.uac_topology_rules.specs.Order.{IsClosed, IsOrder};
 ghost use Rattle.uac_topology_rules.specs.RuleFaults.{broken_names, of_entity};
 ghost use Rattle.uac_topology_rules.specs.RuleNumbers.{number};
-ghost use Rattle.uac_topology_rules.specs.Walks.{IsWalked, goes_on};
+ghost use Rattle.uac_topology_rules.specs.WalkRules.{IsWalked, goes_on};
 
 use crate::fault::TopologyFault;
 use crate::graph::{clock_graph, signal_graph};
+use crate::links::Links;
+use crate::order::{comes_round, sources_first};
 use crate::rule::Rule;
 use crate::table::EntityTable;
 use std::alloc::Global;
 use uac_descriptor::NoMemory;
-use uac_walk::{Links, comes_round, sources_first};
 
 /// The signal links, an order of the entities in which sources stand first, and the first fault by the
 /// rules U6 and U7.

@@ -33,7 +33,7 @@ pub data Said : Type 0 where
   -- at the descriptor's end: how many entities, streaming interfaces and domains there are
   says_ready : ℕ → ℕ → ℕ → Said
   -- the number of a microframe, from 1
-  says_time : ℕ → Said
+  says_microframe : ℕ → Said
   -- the interface, the frames of its packet to the device, and how it arrived
   says_out : ℕ → ℕ → Arrival → Said
   -- the interface, the frames of its packet from the device, and whether it was lost
@@ -53,14 +53,14 @@ pub data Said : Type 0 where
   says_answer : TransferOutcome → Said
   says_view : Sight → Said
   -- the report: the microframes since the start, and whether all was steady
-  says_passed : ℕ → Said
+  says_time : ℕ → Said
   says_steady : Bool → Said
   -- a domain's clock, its rate if it has one, and its ticks since the start
   says_domain : ℕ → Option ℕ → ℕ → Said
   -- a stream to the device: its interface, setting, level and target, and what it met
   says_out_stream : ℕ → ℕ → ℕ → Option ℕ → StreamCounts → Said
-  -- a stream from the device: its interface, setting and level, and what it met
-  says_in_stream : ℕ → ℕ → ℕ → StreamCounts → Said
+  -- a stream from the device: its interface, setting and level, the frames for which its ring had no room, and the packets lost
+  says_in_stream : ℕ → ℕ → ℕ → ℕ → ℕ → Said
   -- what a meter shows
   says_meter : Reading → Said
   -- how many units were rendered
@@ -113,6 +113,16 @@ offender_text false = codes " entity "
 abbrev pub samples_text : List ℤ → List ℕ
 samples_text samples = flat_map (λ s. codes " " ++ numeral s) samples
 
+-- the line of a frame, of which the start tells the kind
+abbrev pub frame_text : List ℕ → ℕ → List ℤ → List ℕ
+frame_text start number samples = start ++ decimal number ++ samples_text samples ++ codes "\n"
+
+-- a text, and then a stream's level and target and what the stream met, but for its reports
+abbrev pub with_stream : List ℕ → ℕ → Option ℕ → StreamCounts → List ℕ
+with_stream text level target met =
+    text ++ codes " level " ++ decimal level ++ codes " target " ++ number_or_dash target ++ codes " under " ++ decimal met.under
+    ++ codes " over " ++ decimal met.over ++ codes " lost " ++ decimal met.lost
+
 -- ---- lines
 
 abbrev pub outcome_text : TransferOutcome → List ℕ
@@ -133,13 +143,13 @@ unfoldable pub spelling_of : Said → List ℕ
 spelling_of (says_ready entities streams domains) =
     codes "ready entities " ++ decimal entities ++ codes " streams " ++ decimal streams
     ++ codes " domains " ++ decimal domains ++ codes "\n"
-spelling_of (says_time number) = codes "u " ++ decimal number ++ codes "\n"
+spelling_of (says_microframe number) = codes "u " ++ decimal number ++ codes "\n"
 spelling_of (says_out interface frames arrival) =
     codes "o " ++ decimal interface ++ codes " " ++ decimal frames ++ codes " " ++ arrival_name arrival ++ codes "\n"
 spelling_of (says_in interface frames lost) =
     codes "i " ++ decimal interface ++ codes " " ++ decimal frames ++ codes " " ++ lost_or_ok lost ++ codes "\n"
-spelling_of (says_frame interface samples) = codes "r " ++ decimal interface ++ samples_text samples ++ codes "\n"
-spelling_of (says_played terminal samples) = codes "p " ++ decimal terminal ++ samples_text samples ++ codes "\n"
+spelling_of (says_frame interface samples) = frame_text (codes "r ") interface samples
+spelling_of (says_played terminal samples) = frame_text (codes "p ") terminal samples
 spelling_of (says_under interface) = codes "under " ++ decimal interface ++ codes "\n"
 spelling_of (says_over interface) = codes "over " ++ decimal interface ++ codes "\n"
 spelling_of (says_level interface level target) =
@@ -148,17 +158,16 @@ spelling_of (says_feedback interface value lost) =
     codes "f " ++ decimal interface ++ codes " " ++ encode_lower (bytes_high_first 4 value) ++ codes " " ++ lost_or_ok lost ++ codes "\n"
 spelling_of (says_answer outcome) = outcome_text outcome
 spelling_of (says_view sight) = sight_text sight
-spelling_of (says_passed time) = codes "time " ++ decimal time ++ codes "\n"
+spelling_of (says_time time) = codes "time " ++ decimal time ++ codes "\n"
 spelling_of (says_steady steady) = codes "steady " ++ yes_or_no steady ++ codes "\n"
 spelling_of (says_domain clock rate ticks) =
     codes "domain " ++ decimal clock ++ codes " rate " ++ number_or_dash rate ++ codes " ticks " ++ decimal ticks ++ codes "\n"
 spelling_of (says_out_stream interface setting level target met) =
-    codes "stream " ++ decimal interface ++ codes " out setting " ++ decimal setting ++ codes " level " ++ decimal level
-    ++ codes " target " ++ number_or_dash target ++ codes " under " ++ decimal met.under ++ codes " over " ++ decimal met.over
-    ++ codes " lost " ++ decimal met.lost ++ codes " missed " ++ decimal met.missed ++ codes "\n"
-spelling_of (says_in_stream interface setting level met) =
+    with_stream (codes "stream " ++ decimal interface ++ codes " out setting " ++ decimal setting) level target met
+    ++ codes " missed " ++ decimal met.missed ++ codes "\n"
+spelling_of (says_in_stream interface setting level over lost) =
     codes "stream " ++ decimal interface ++ codes " in setting " ++ decimal setting ++ codes " level " ++ decimal level
-    ++ codes " over " ++ decimal met.over ++ codes " lost " ++ decimal met.lost ++ codes "\n"
+    ++ codes " over " ++ decimal over ++ codes " lost " ++ decimal lost ++ codes "\n"
 spelling_of (says_meter reading) = codes "meter " ++ meter_name reading.kind ++ codes " " ++ decimal reading.value ++ codes "\n"
 spelling_of (says_renders count) = codes "renders " ++ decimal count ++ codes "\n"
 spelling_of (says_misread rule number) = codes "script S" ++ decimal rule ++ codes " line " ++ decimal number ++ codes "\n"

@@ -2,65 +2,60 @@
 ghost use Rattle.std.specs.Prelude.{◌≡◌, ◌+◌, ◌*◌, ◌≤◌, [], ◌++◌, length};
 ghost use Rattle.uac_edges.specs.Faults.{HasCause};
 ghost use Rattle.uac_edges.specs.Writing.{Writes};
-ghost use Rattle.uac_transcript.specs.Transcript.{samples_text, says_frame, says_played, spelling_of};
+ghost use Rattle.uac_transcript.specs.Transcript.{frame_text, samples_text, says_frame, says_played, spelling_of};
 
 use uac_edges::{Failed, Sink, TextLine, give_all};
 use uac_pcm::Frame;
 
 /// Prints the frame that an output jack played in a tick.
+#[tactic(auto, unfolding(crate::specs::Transcript::spelling_of))]
 pub fn write_played<K: Sink>(sink: &mut K, terminal: u8, frame: &Frame) -> Result<(), Failed>
     ensures written { Writes (K.written sink.old) (K.written sink.new) result (spelling_of (says_played terminal frame.now.items)) }
     ensures cause { HasCause (K.faults sink.old) (K.faults sink.new) result }
 {
-    let samples = frame.as_slice();
-    if samples.len() <= 4 {
-        let mut text: TextLine<112> = TextLine::new();
-        push_played(&mut text, terminal, samples);
-        give_all(sink, text.as_bytes())
-    } else {
-        let mut text: TextLine<768> = TextLine::new();
-        push_played(&mut text, terminal, samples);
-        give_all(sink, text.as_bytes())
-    }
-}
-
-#[tactic(auto, unfolding(crate::specs::Transcript::spelling_of))]
-fn push_played<const N: usize>(text: &mut TextLine<N>, terminal: u8, samples: &[i32])
-    requires empty { text.old ≡ [] }
-    requires room { 23 + 22 * length samples.now ≤ N }
-    ensures { text.new ≡ spelling_of (says_played terminal samples.now) }
-{
-    text.push(b"p ");
-    text.push_number(u64::from(terminal));
-    push_samples(text, samples);
-    text.push_byte(b'\n');
+    write_samples(sink, b"p ", terminal, frame)
 }
 
 /// Prints a frame that came from an interface.
+#[tactic(auto, unfolding(crate::specs::Transcript::spelling_of))]
 pub fn write_frame<K: Sink>(sink: &mut K, interface: u8, frame: &Frame) -> Result<(), Failed>
     ensures written { Writes (K.written sink.old) (K.written sink.new) result (spelling_of (says_frame interface frame.now.items)) }
+    ensures cause { HasCause (K.faults sink.old) (K.faults sink.new) result }
+{
+    write_samples(sink, b"r ", interface, frame)
+}
+
+/// Prints the line of a frame, of which `start` tells the kind. A frame of few samples has a short buffer.
+fn write_samples<K: Sink>(
+    sink: &mut K,
+    start: &[u8],
+    number: u8,
+    frame: &Frame,
+) -> Result<(), Failed>
+    requires { length start.now ≤ 2 }
+    ensures written { Writes (K.written sink.old) (K.written sink.new) result (frame_text start.now number frame.now.items) }
     ensures cause { HasCause (K.faults sink.old) (K.faults sink.new) result }
 {
     let samples = frame.as_slice();
     if samples.len() <= 4 {
         let mut text: TextLine<112> = TextLine::new();
-        push_frame(&mut text, interface, samples);
+        push_frame(&mut text, start, number, samples);
         give_all(sink, text.as_bytes())
     } else {
         let mut text: TextLine<768> = TextLine::new();
-        push_frame(&mut text, interface, samples);
+        push_frame(&mut text, start, number, samples);
         give_all(sink, text.as_bytes())
     }
 }
 
-#[tactic(auto, unfolding(crate::specs::Transcript::spelling_of))]
-fn push_frame<const N: usize>(text: &mut TextLine<N>, interface: u8, samples: &[i32])
+fn push_frame<const N: usize>(text: &mut TextLine<N>, start: &[u8], number: u8, samples: &[i32])
     requires empty { text.old ≡ [] }
+    requires short { length start.now ≤ 2 }
     requires room { 23 + 22 * length samples.now ≤ N }
-    ensures { text.new ≡ spelling_of (says_frame interface samples.now) }
+    ensures { text.new ≡ frame_text start.now number samples.now }
 {
-    text.push(b"r ");
-    text.push_number(u64::from(interface));
+    text.push(start);
+    text.push_number(u64::from(number));
     push_samples(text, samples);
     text.push_byte(b'\n');
 }

@@ -2,17 +2,17 @@
 ghost use Rattle.std.specs.Prelude.{◌≡◌, ◌≤◌, length};
 ghost use Rattle.uac_edges.specs.Faults.{HasCause};
 ghost use Rattle.uac_edges.specs.Writing.{Writes};
-ghost use Rattle.uac_transcript.specs.Transcript.{meter_name, says_domain, says_in_stream, says_meter, says_out_stream, says_passed};
+ghost use Rattle.uac_transcript.specs.Transcript.{meter_name, says_domain, says_in_stream, says_meter, says_out_stream, says_time};
 ghost use Rattle.uac_transcript.specs.Transcript.{says_renders, says_steady, spelling_of};
 
-use crate::pieces::{push_number_or_dash, yes_or_no};
+use crate::pieces::{push_number_or_dash, push_stream, yes_or_no};
 use uac_edges::{Failed, Sink, TextLine, give_all};
 use uac_ring::StreamCounts;
 use uac_units::MeterKind;
 
 /// Prints the microframes since the start.
-pub fn write_passed<K: Sink>(sink: &mut K, time: u64) -> Result<(), Failed>
-    ensures written { Writes (K.written sink.old) (K.written sink.new) result (spelling_of (says_passed time)) }
+pub fn write_time<K: Sink>(sink: &mut K, time: u64) -> Result<(), Failed>
+    ensures written { Writes (K.written sink.old) (K.written sink.new) result (spelling_of (says_time time)) }
     ensures cause { HasCause (K.faults sink.old) (K.faults sink.new) result }
 {
     give_all(sink, time_line(time).as_bytes())
@@ -20,7 +20,7 @@ pub fn write_passed<K: Sink>(sink: &mut K, time: u64) -> Result<(), Failed>
 
 #[tactic(auto, unfolding(crate::specs::Transcript::spelling_of))]
 fn time_line(time: u64) -> TextLine<32>
-    ensures { result ≡ spelling_of (says_passed time) }
+    ensures { result ≡ spelling_of (says_time time) }
 {
     let mut text = TextLine::new();
     text.push(b"time ");
@@ -110,23 +110,15 @@ fn out_stream(
     text.push_number(u64::from(interface));
     text.push(b" out setting ");
     text.push_number(u64::from(setting));
-    text.push(b" level ");
-    text.push_number(u64::from(level));
-    text.push(b" target ");
-    push_number_or_dash(&mut text, target);
-    text.push(b" under ");
-    text.push_number(met.under);
-    text.push(b" over ");
-    text.push_number(met.over);
-    text.push(b" lost ");
-    text.push_number(met.lost);
+    push_stream(&mut text, level, target, met);
     text.push(b" missed ");
     text.push_number(met.missed);
     text.push_byte(b'\n');
     text
 }
 
-/// Prints a stream from the device: its interface, its setting, its level in frames, and what it met.
+/// Prints a stream from the device: its interface, its setting, its level in frames, and of what it met the frames for which
+/// there was no room, and the packets lost.
 pub fn write_in_stream<K: Sink>(
     sink: &mut K,
     interface: u8,
@@ -134,7 +126,7 @@ pub fn write_in_stream<K: Sink>(
     level: u32,
     met: StreamCounts,
 ) -> Result<(), Failed>
-    ensures written { Writes (K.written sink.old) (K.written sink.new) result (spelling_of (says_in_stream interface setting level met)) }
+    ensures written { Writes (K.written sink.old) (K.written sink.new) result (spelling_of (says_in_stream interface setting level met.over met.lost)) }
     ensures cause { HasCause (K.faults sink.old) (K.faults sink.new) result }
 {
     give_all(sink, in_stream(interface, setting, level, met).as_bytes())
@@ -142,7 +134,7 @@ pub fn write_in_stream<K: Sink>(
 
 #[tactic(auto, unfolding(crate::specs::Transcript::spelling_of))]
 fn in_stream(interface: u8, setting: u8, level: u32, met: StreamCounts) -> TextLine<160>
-    ensures { result ≡ spelling_of (says_in_stream interface setting level met) }
+    ensures { result ≡ spelling_of (says_in_stream interface setting level met.over met.lost) }
 {
     let mut text = TextLine::new();
     text.push(b"stream ");

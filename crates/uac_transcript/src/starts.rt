@@ -2,7 +2,7 @@
 ghost use Rattle.std.specs.Prelude.{◌≡◌, []};
 ghost use Rattle.uac_edges.specs.Faults.{HasCause};
 ghost use Rattle.uac_edges.specs.Writing.{Writes};
-ghost use Rattle.uac_transcript.specs.Transcript.{says_ready, says_time, spelling_of};
+ghost use Rattle.uac_transcript.specs.Transcript.{says_ready, says_microframe, spelling_of};
 
 use uac_edges::{Failed, Sink, TextLine, give_all};
 
@@ -35,19 +35,19 @@ fn ready(entities: usize, streams: usize, domains: usize) -> TextLine<128>
 }
 
 /// Prints the number of a microframe, from 1.
-pub fn write_time<K: Sink>(sink: &mut K, number: u64) -> Result<(), Failed>
-    ensures written { Writes (K.written sink.old) (K.written sink.new) result (spelling_of (says_time number)) }
+pub fn write_microframe<K: Sink>(sink: &mut K, number: u64) -> Result<(), Failed>
+    ensures written { Writes (K.written sink.old) (K.written sink.new) result (spelling_of (says_microframe number)) }
     ensures cause { HasCause (K.faults sink.old) (K.faults sink.new) result }
 {
     let mut text: TextLine<32> = TextLine::new();
-    push_time(&mut text, number);
+    push_microframe(&mut text, number);
     give_all(sink, text.as_bytes())
 }
 
 #[tactic(auto, unfolding(crate::specs::Transcript::spelling_of))]
-fn push_time(text: &mut TextLine<32>, number: u64)
+fn push_microframe(text: &mut TextLine<32>, number: u64)
     requires { text.old ≡ [] }
-    ensures { text.new ≡ spelling_of (says_time number) }
+    ensures { text.new ≡ spelling_of (says_microframe number) }
 {
     text.push(b"u ");
     text.push_number(number);

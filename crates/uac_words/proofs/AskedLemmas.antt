@@ -2,7 +2,7 @@
 use Rattle.std.proofs.Common.{◌≡◌, ◌⊎◌, ◌∙◌, ◌<◌, ◌≤◌, ◌^◌, ap, sym, subst, refl, inl, inr, true, false, Bool, ℕ, List, [], ◌∷◌, ◌++◌, length, take, drop, codes, decimal, Option, None, Some, unwrap_or, Result, Ok, Err, arith, true≢false}
 use Rattle.std.specs.Prelude.{◌==◌, ◌&&◌, ◌||◌, if◌then◌else◌, not, nat_le}
 use Rattle.std.specs.List.{slice_index}
-use Rattle.std.specs.Option.{is_some, option_map}
+use Rattle.std.specs.Option.{is_some, option_and_then, option_map}
 use Rattle.std.specs.Str.{bytes_eq}
 use Rattle.std.specs.Str.Parse.{digits_value}
 use Rattle.std.proofs.lemmas.Bool.{and_parts, eqb-true, leb-true, ltb-true}
@@ -10,14 +10,16 @@ use Rattle.std.proofs.lemmas.Fmt.{decimal-digits_value}
 use Rattle.std.proofs.lemmas.List.{take-append-drop}
 use Rattle.std.proofs.lemmas.Str.Parse.{numerals_by_value, tells_digits}
 use Rattle.uac_words.specs.declared.commands.Command.{Command}
-use Rattle.uac_words.specs.declared.commands.Command.TheVariants.{Check, Show, Elements, Run, Gen, Settle}
+use Rattle.uac_words.specs.declared.commands.Command.TheVariants.{Check, Show, Elements, Run, Gen, Full, Settle, Pair, Panel}
 use Rattle.uac_words.specs.declared.commands.RackChoice.{RackChoice}
 use Rattle.uac_words.specs.declared.commands.RackChoice.TheVariants.{Plain, Lanes}
 use Rattle.uac_words.specs.declared.commands.Invocation.{Invocation}
 use Rattle.uac_words.specs.declared.commands.WordsFault.{WordsFault}
 use Rattle.uac_words.specs.declared.commands.WordsFault.TheVariants.{NoMemory, Usage}
 use Rattle.uac_words.specs.ByClap.{IsAnswer}
-use Rattle.uac_words.specs.Asked.{both, is_decimal, decimal_value_of}
+use Rattle.uac_clock.specs.Nominal.{twelve_rates}
+use Rattle.uac_words.specs.Table.{full_speed_rates}
+use Rattle.uac_words.specs.Asked.{both, is_among, is_decimal, decimal_value_of, rate_of}
 use Rattle.uac_words.specs.CommandLines.{AnswersLine, IsCommandInRange, IsCommandLine, rack_name, command_words}
 use Rattle.uac_words.specs.Plain.{PartedWords, CommandWord, invocation_at, command_in, ends_options, has_rack_value, is_dashed, is_option, parted_words_of, plainly, rack_in, with_bare, with_rack}
 use Rattle.uac_words.proofs.CommandLinesLemmas.{line_asks}
@@ -63,6 +65,22 @@ number_written text n h = go (is_decimal text && nat_le (digits_value 10 text) 4
         let value = inside (digits_value 10 text) n h in
         (sym (written text parts.0 small) ∙ ap decimal value, omega (arith, value))
 
+-- ---- a rate
+
+one_kept : (rates : List ℕ) (m n : ℕ) (b : Bool) → is_among m rates ≡ b → (if b then Some m else None) ≡ Some n → (m ≡ n) × (is_among n rates ≡ true)
+one_kept rates m n false e h = nothing n h
+one_kept rates m n true e h = let same = inside m n h in (same, subst (λ (x : ℕ). is_among x rates ≡ true) same e)
+
+rate_written : (text : CommandWord) (rates : List ℕ) (n : ℕ) → rate_of rates text ≡ Some n → (text ≡ decimal n) × (is_among n rates ≡ true)
+rate_written text rates n h = by (decimal_value_of text) refl h
+  where
+    by : (o : Option ℕ) → decimal_value_of text ≡ o → option_and_then (λ rate. if is_among rate rates then Some rate else None) o ≡ Some n
+        → (text ≡ decimal n) × (is_among n rates ≡ true)
+    by None e h = nothing n h
+    by (Some m) e h =
+        let kept = one_kept rates m n (is_among m rates) refl h in
+        ((number_written text m e).0 ∙ ap decimal kept.0, kept.1)
+
 -- ---- a command and a rack
 
 abbrev IsSpelled : List CommandWord → Command → Type 0
@@ -75,6 +93,16 @@ named word name this command others is true e h next =
     let same = inside this command h in
     subst (λ (c : Command). IsSpelled (word ∷ []) c) same (ap (λ w. w ∷ []) (bytes_same word name e) ∙ is.0, is.1)
 
+numbered : (word number name : CommandWord) (make : ℕ → Command) (value : Option ℕ) (command : Command) (others : Option Command)
+    → ((n : ℕ) → value ≡ Some n → IsSpelled (name ∷ number ∷ []) (make n)) → (t : Bool) → bytes_eq word name ≡ t
+    → (if t then option_map make value else others) ≡ Some command
+    → (others ≡ Some command → IsSpelled (word ∷ number ∷ []) command) → IsSpelled (word ∷ number ∷ []) command
+numbered word number name make value command others is false e h next = next h
+numbered word number name make value command others is true e h next =
+    let found = mapped make value command h in
+    subst (λ (w : CommandWord). IsSpelled (w ∷ number ∷ []) command) (sym (bytes_same word name e))
+    (subst (λ (c : Command). IsSpelled (name ∷ number ∷ []) c) found.2 (is found.0 found.1))
+
 command_written : (bare : List CommandWord) (command : Command) → command_in bare ≡ Some command → IsSpelled bare command
 command_written [] command h = nothing command h
 command_written (word ∷ []) command h =
@@ -82,17 +110,15 @@ command_written (word ∷ []) command h =
     named word (codes "show") Show command _ (refl, tt) _ refl h (λ h.
     named word (codes "elements") Elements command _ (refl, tt) _ refl h (λ h.
     named word (codes "run") Run command _ (refl, tt) _ refl h (λ h.
-    named word (codes "settle") Settle command _ (refl, tt) _ refl h (λ h. nothing command h)))))
-command_written (word ∷ number ∷ []) command h = go (bytes_eq word (codes "gen")) refl h
-  where
-    go : (t : Bool) → bytes_eq word (codes "gen") ≡ t → (if t then option_map Gen (decimal_value_of number) else None) ≡ Some command
-        → IsSpelled (word ∷ number ∷ []) command
-    go false e h = nothing command h
-    go true e h =
-        let found = mapped Gen (decimal_value_of number) command h in
-        let is = number_written number found.0 found.1 in
-        subst (λ (c : Command). IsSpelled (word ∷ number ∷ []) c) found.2
-        (ap (λ w. w ∷ number ∷ []) (bytes_same word (codes "gen") e) ∙ ap (λ d. codes "gen" ∷ d ∷ []) is.0, is.1)
+    named word (codes "settle") Settle command _ (refl, tt) _ refl h (λ h.
+    named word (codes "panel") Panel command _ (refl, tt) _ refl h (λ h. nothing command h))))))
+command_written (word ∷ number ∷ []) command h =
+    numbered word number (codes "gen") Gen (decimal_value_of number) command _
+    (λ n e. let is = number_written number n e in (ap (λ d. codes "gen" ∷ d ∷ []) is.0, is.1)) _ refl h (λ h.
+    numbered word number (codes "full") Full (rate_of full_speed_rates number) command _
+    (λ n e. let is = rate_written number full_speed_rates n e in (ap (λ d. codes "full" ∷ d ∷ []) is.0, is.1)) _ refl h (λ h.
+    numbered word number (codes "pair") Pair (rate_of twelve_rates number) command _
+    (λ n e. let is = rate_written number twelve_rates n e in (ap (λ d. codes "pair" ∷ d ∷ []) is.0, is.1)) _ refl h (λ h. nothing command h)))
 command_written (word ∷ number ∷ third ∷ more) command h = nothing command h
 
 rack_written : (racks : List CommandWord) (rack : RackChoice) → rack_in racks ≡ Some rack → (racks ≡ []) × (rack ≡ Plain) ⊎ (racks ≡ rack_name rack ∷ [])

@@ -1,18 +1,20 @@
 -- A command line asks for its command over its rack.
-use Rattle.std.proofs.Common.{◌≡◌, ◌≢◌, ◌⊎◌, ◌∙◌, ◌<◌, ◌^◌, ap, sym, subst, refl, inl, inr, true, false, ℕ, zero, suc, List, [], ◌∷◌, ◌++◌, length, codes, decimal, get_or, Some, arith, append-nil}
+use Rattle.std.proofs.Common.{◌≡◌, ◌≢◌, ◌⊎◌, ◌∙◌, ◌<◌, ◌^◌, ap, sym, subst, refl, inl, inr, true, false, Bool, ℕ, ◌==◌, ◌||◌, true≢false, zero, suc, List, [], ◌∷◌, ◌++◌, length, codes, decimal, get_or, Option, None, Some, if◌then◌else◌, arith, append-nil}
 use Rattle.std.specs.Char.{is_ascii_digit}
 use Rattle.std.specs.List.{AllByRecursion, list_all}
-use Rattle.std.specs.Option.{option_map}
+use Rattle.uac_clock.specs.Nominal.{twelve_rates}
+use Rattle.uac_words.specs.Table.{full_speed_rates}
+use Rattle.std.specs.Option.{option_and_then, option_map}
 use Rattle.std.specs.Str.Parse.{AllDigits, digits_value}
-use Rattle.std.proofs.lemmas.Bool.{cond-true, le-leb, lt-ltb, ne_eqb}
+use Rattle.std.proofs.lemmas.Bool.{cond-true, eqb-true, le-leb, lt-ltb, ne_eqb}
 use Rattle.std.proofs.lemmas.Fmt.{decimal_digit, decimal_is_IsNumeral, first_decimal}
 use Rattle.std.proofs.lemmas.Str.Parse.{digit_from_value}
 use Rattle.uac_words.specs.declared.commands.Command.{Command}
-use Rattle.uac_words.specs.declared.commands.Command.TheVariants.{Check, Show, Elements, Run, Gen, Settle}
+use Rattle.uac_words.specs.declared.commands.Command.TheVariants.{Check, Show, Elements, Run, Gen, Full, Settle, Pair, Panel}
 use Rattle.uac_words.specs.declared.commands.RackChoice.{RackChoice}
 use Rattle.uac_words.specs.declared.commands.RackChoice.TheVariants.{Plain, Lanes}
 use Rattle.uac_words.specs.declared.commands.Invocation.{Invocation}
-use Rattle.uac_words.specs.Asked.{both, is_decimal, decimal_value_of}
+use Rattle.uac_words.specs.Asked.{both, is_among, is_decimal, decimal_value_of, rate_of}
 use Rattle.uac_words.specs.CommandLines.{Chooses, IsCommandInRange, IsCommandLine, rack_name, command_words}
 use Rattle.uac_words.specs.Plain.{CommandWord, invocation_at, command_in, parted_words_of, plainly, rack_in, with_bare, with_rack}
 use Rattle.uac_words.proofs.AskedDigitLemmas.{both_true}
@@ -46,6 +48,27 @@ number_spelled n small =
     let value = (decimal_is_IsNumeral n (omega arith)).1 in
     cond-true _ _ _ (both_true _ _ (decimal_is n small) (le-leb (digits_value 10 (decimal n)) 4294967295 (omega arith))) ∙ ap Some value
 
+-- ---- rates
+
+one_of : (n rate : ℕ) (rest : Bool) → (b : Bool) → (rate == n) ≡ b → rate < 2 ^ 32 → (rest ≡ true → n < 2 ^ 32) → (b || rest) ≡ true → n < 2 ^ 32
+one_of n rate rest true e small next h = let same = eqb-true rate n e in omega arith
+one_of n rate rest false e small next h = next h
+
+among_small : (n : ℕ) (rates : List ℕ) → AllByRecursion (λ rate. rate < 2 ^ 32) rates → is_among n rates ≡ true → n < 2 ^ 32
+among_small n [] all h = absurd (true≢false (sym h))
+among_small n (rate ∷ rates) all h = one_of n rate (is_among n rates) (rate == n) refl all.0 (among_small n rates all.1) h
+
+twelve_small : AllByRecursion (λ rate. rate < 2 ^ 32) twelve_rates
+twelve_small =
+    (omega arith, (omega arith, (omega arith, (omega arith, (omega arith, (omega arith, (omega arith, (omega arith, (omega arith, (omega arith, (omega arith, (omega arith, tt))))))))))))
+
+ten_small : AllByRecursion (λ rate. rate < 2 ^ 32) full_speed_rates
+ten_small = (omega arith, (omega arith, (omega arith, (omega arith, (omega arith, (omega arith, (omega arith, (omega arith, (omega arith, (omega arith, tt))))))))))
+
+rate_spelled : (n : ℕ) (rates : List ℕ) → AllByRecursion (λ rate. rate < 2 ^ 32) rates → is_among n rates ≡ true → rate_of rates (decimal n) ≡ Some n
+rate_spelled n rates all among =
+    ap (option_and_then (λ rate. if is_among rate rates then Some rate else None)) (number_spelled n (among_small n rates all among)) ∙ cond-true _ _ _ among
+
 -- ---- the words of a command
 
 bare_digits : (ds : CommandWord) → 0 < length ds → AllDigits 10 ds → IsBare ds
@@ -59,9 +82,18 @@ bare_spelled Show range = (record { dashed = refl; ends = refl; option = refl; v
 bare_spelled Elements range = (record { dashed = refl; ends = refl; option = refl; valued = refl; long = refl; short = refl }, tt)
 bare_spelled Run range = (record { dashed = refl; ends = refl; option = refl; valued = refl; long = refl; short = refl }, tt)
 bare_spelled Settle range = (record { dashed = refl; ends = refl; option = refl; valued = refl; long = refl; short = refl }, tt)
+bare_spelled Panel range = (record { dashed = refl; ends = refl; option = refl; valued = refl; long = refl; short = refl }, tt)
 bare_spelled (Gen number) range =
     let numeral = (decimal_is_IsNumeral number (omega arith)).0 in
     (record { dashed = refl; ends = refl; option = refl; valued = refl; long = refl; short = refl }, (bare_digits (decimal number) numeral.0 numeral.1, tt))
+bare_spelled (Full rate) range =
+    let small = among_small rate full_speed_rates ten_small range in
+    let numeral = (decimal_is_IsNumeral rate (omega arith)).0 in
+    (record { dashed = refl; ends = refl; option = refl; valued = refl; long = refl; short = refl }, (bare_digits (decimal rate) numeral.0 numeral.1, tt))
+bare_spelled (Pair rate) range =
+    let small = among_small rate twelve_rates twelve_small range in
+    let numeral = (decimal_is_IsNumeral rate (omega arith)).0 in
+    (record { dashed = refl; ends = refl; option = refl; valued = refl; long = refl; short = refl }, (bare_digits (decimal rate) numeral.0 numeral.1, tt))
 
 command_spelled : (command : Command) → IsCommandInRange command → command_in (command_words command) ≡ Some command
 command_spelled Check range = refl
@@ -69,7 +101,10 @@ command_spelled Show range = refl
 command_spelled Elements range = refl
 command_spelled Run range = refl
 command_spelled Settle range = refl
+command_spelled Panel range = refl
 command_spelled (Gen number) range = ap (option_map Gen) (number_spelled number range)
+command_spelled (Full rate) range = ap (option_map Full) (rate_spelled rate full_speed_rates ten_small range)
+command_spelled (Pair rate) range = ap (option_map Pair) (rate_spelled rate twelve_rates twelve_small range)
 
 all_front : {X : Type 0} (P : X → Type 0) (xs ys : List X) → AllByRecursion P (xs ++ ys) → AllByRecursion P xs
 all_front P [] ys h = tt

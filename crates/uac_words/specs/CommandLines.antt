@@ -1,34 +1,43 @@
 -- Profile: the command lines, as they are written.
-use Rattle.std.specs.Prelude.{◌≡◌, ◌⊎◌, ◌^◌, ◌<◌, ⊤, List, [], ◌∷◌, ◌++◌, codes, decimal, Some, Result, Ok, Err}
+use Rattle.std.specs.Prelude.{◌≡◌, ◌⊎◌, ◌^◌, ◌<◌, ⊤, true, List, [], ◌∷◌, ◌++◌, codes, decimal, Some, Result, Ok, Err}
 use Rattle.std.specs.List.{AllByRecursion}
 use Rattle.std.specs.Str.{IsUtf8}
 use Rattle.uac_words.specs.declared.commands.Command.{Command}
-use Rattle.uac_words.specs.declared.commands.Command.TheVariants.{Check, Show, Elements, Run, Gen, Settle}
+use Rattle.uac_words.specs.declared.commands.Command.TheVariants.{Check, Show, Elements, Run, Gen, Full, Settle, Pair, Panel}
 use Rattle.uac_words.specs.declared.commands.RackChoice.{RackChoice}
 use Rattle.uac_words.specs.declared.commands.RackChoice.TheVariants.{Plain, Lanes}
 use Rattle.uac_words.specs.declared.commands.Invocation.{Invocation}
 use Rattle.uac_words.specs.declared.commands.WordsFault.{WordsFault}
 use Rattle.uac_words.specs.declared.commands.WordsFault.TheVariants.{NoMemory, Usage}
+use Rattle.uac_clock.specs.Nominal.{twelve_rates}
+use Rattle.uac_words.specs.Table.{full_speed_rates}
+use Rattle.uac_words.specs.Asked.{is_among}
 use Rattle.uac_words.specs.ByClap.{invocation_of}
 use Rattle.uac_words.specs.Plain.{CommandWord, plainly}
 
--- a command, as it is written: NUMBER is in decimal without leading zeros
+-- a command, as it is written: NUMBER and RATE are in decimal without leading zeros
 abbrev pub command_words : Command → List CommandWord
 command_words Check = codes "check" ∷ []
 command_words Show = codes "show" ∷ []
 command_words Elements = codes "elements" ∷ []
 command_words Run = codes "run" ∷ []
 command_words (Gen number) = codes "gen" ∷ decimal number ∷ []
+command_words (Full rate) = codes "full" ∷ decimal rate ∷ []
 command_words Settle = codes "settle" ∷ []
+command_words (Pair rate) = codes "pair" ∷ decimal rate ∷ []
+command_words Panel = codes "panel" ∷ []
 
--- a NUMBER has 32 bits
+-- a NUMBER has 32 bits, and a RATE is one of the command's
 abbrev pub IsCommandInRange : Command → Type 0
 IsCommandInRange (Gen number) = number < 2 ^ 32
 IsCommandInRange Check = ⊤
 IsCommandInRange Show = ⊤
 IsCommandInRange Elements = ⊤
 IsCommandInRange Run = ⊤
+IsCommandInRange (Full rate) = is_among rate full_speed_rates ≡ true
 IsCommandInRange Settle = ⊤
+IsCommandInRange (Pair rate) = is_among rate twelve_rates ≡ true
+IsCommandInRange Panel = ⊤
 
 abbrev pub rack_name : RackChoice → CommandWord
 rack_name Plain = codes "plain"

@@ -14,8 +14,14 @@ pub enum Command {
     Run,
     /// Runs the script that is made from this number.
     Gen(u32),
+    /// Runs a script on a full-speed stream of this rate in Hz.
+    Full(u32),
     /// How long a stream takes to come home after a lost packet, at each rate.
     Settle,
+    /// Runs a script on a pair of streams of this rate in Hz, of which the host follows one by the other.
+    Pair(u32),
+    /// Runs a script on a front panel: knobs on a device, and a host that hears of them.
+    Panel,
 }
 
 /// Which rack renders.

@@ -2,7 +2,7 @@
 ghost use Rattle.std.specs.Prelude.{◌≡◌, ◌≢◌, ◌⊎◌, IfOk, MatchResult, map, string_bytes};
 ghost use Rattle.std.specs.List.{list_all};
 ghost use Rattle.std.specs.Char.{is_ascii_digit};
-ghost use Rattle.uac_words.specs.Asked.{both, command_named, command_of, command_with, is_decimal, decimal_value_of, rack_named};
+ghost use Rattle.uac_words.specs.Asked.{both, command_named, command_of, command_with, is_decimal, decimal_value_of, rack_named, rate_of};
 ghost use Rattle.uac_words.specs.ByClap.{HasMatched, IsAnswer, IsRefused, answer_to_words, invocation_of, invocation_by};
 ghost use Rattle.uac_words.specs.ByClap.{invocation_by_rows, now_in};
 ghost use Rattle.uac_words.specs.ByClap.{simple_command};
@@ -14,6 +14,12 @@ use crate::commands::{Command, Invocation, RackChoice, WordsFault};
 use clap::error::ErrorKind;
 use clap::{Arg, ArgAction, ArgMatches, Error};
 use std::alloc::{AllocError, Global};
+use uac_clock::RATES;
+
+/// The rates of a full-speed stream, in Hz: those up to 96,000.
+const FULL_SPEED_RATES: [u32; 10] = [
+    8000, 11025, 16000, 22050, 32000, 44100, 48000, 64000, 88200, 96000,
+];
 
 /// Whether all of a word are decimal digits.
 fn are_digits(word: &[u8]) -> bool
@@ -44,7 +50,18 @@ fn number(word: &str) -> Option<u32>
     word.parse::<u32>().ok()
 }
 
-/// The command of this name, of those that take no NUMBER.
+/// The RATE of these that a word spells.
+fn rate(word: &str, rates: &[u32]) -> Option<u32>
+    ensures { result ≡ rate_of rates.now word.now }
+{
+    let rate = number(word)?;
+    if !rates.contains(&rate) {
+        return None;
+    }
+    Some(rate)
+}
+
+/// The command of this name, of those that take nothing.
 fn command_named(word: &str) -> Option<Command>
     ensures { result ≡ command_named word.now }
 {
@@ -58,19 +75,26 @@ fn command_named(word: &str) -> Option<Command>
         Some(Command::Run)
     } else if word == "settle" {
         Some(Command::Settle)
+    } else if word == "panel" {
+        Some(Command::Panel)
     } else {
         None
     }
 }
 
-/// The command of this name with this NUMBER.
+/// The command of this name with this NUMBER or RATE.
 fn command_with(word: &str, digits: &str) -> Option<Command>
     ensures { result ≡ command_with word.now digits.now }
 {
-    if word != "gen" {
-        return None;
+    if word == "gen" {
+        Some(Command::Gen(number(digits)?))
+    } else if word == "full" {
+        Some(Command::Full(rate(digits, &FULL_SPEED_RATES)?))
+    } else if word == "pair" {
+        Some(Command::Pair(rate(digits, &RATES)?))
+    } else {
+        None
     }
-    Some(Command::Gen(number(digits)?))
 }
 
 /// The rack of this name.

@@ -161,7 +161,7 @@ pub(super) fn selector(alloc: Global, bytes: &[u8]) -> Result<Option<Block>, NoM
 }
 
 /// A feature unit (Audio Class 2.0, 4.7.2.8).
-#[tactic(auto, using(crate::proofs::LittleLemmas::words_length), unfolding(uac_descriptor::specs::BlockParsing::has_length, uac_descriptor::specs::BlockParsing::fields))]
+#[tactic(auto, using(uac_descriptor::proofs::BlockParsingLemmas::words_length), unfolding(uac_descriptor::specs::BlockParsing::has_length, uac_descriptor::specs::BlockParsing::fields))]
 pub(super) fn feature(alloc: Global, bytes: &[u8]) -> Result<Option<Block>, NoMemory>
     requires { IsWhole bytes.now }
     ensures { IfOk result (λ found. found ≡ read_row rows.feature bytes.now) }
@@ -178,7 +178,7 @@ pub(super) fn feature(alloc: Global, bytes: &[u8]) -> Result<Option<Block>, NoMe
 }
 
 /// An effect unit (Audio Class 2.0, 4.7.2.10; profile: its control words and its length).
-#[tactic(auto, using(crate::proofs::LittleLemmas::words_length), unfolding(uac_descriptor::specs::BlockParsing::has_length, uac_descriptor::specs::BlockParsing::fields))]
+#[tactic(auto, using(uac_descriptor::proofs::BlockParsingLemmas::words_length), unfolding(uac_descriptor::specs::BlockParsing::has_length, uac_descriptor::specs::BlockParsing::fields))]
 pub(super) fn effect(alloc: Global, bytes: &[u8]) -> Result<Option<Block>, NoMemory>
     requires { IsWhole bytes.now }
     ensures { IfOk result (λ found. found ≡ read_row rows.effect bytes.now) }

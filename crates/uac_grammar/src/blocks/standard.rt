@@ -84,6 +84,7 @@ pub(super) fn endpoint(bytes: &[u8]) -> Option<Block>
 
 /// A block that no other row reads.
 #[tactic(auto, unfolding(uac_descriptor::specs::BlockParsing::has_length, uac_descriptor::specs::BlockParsing::fields))]
+#[inline(always)]
 pub(super) fn foreign(alloc: Global, bytes: &[u8]) -> Result<Option<Block>, NoMemory>
     requires whole { IsWhole bytes.now }
     requires not_parting { IsTrue (not (is_parting (slice_index bytes.now 1))) }

@@ -1,5 +1,6 @@
 use Rattle.std.proofs.Common.{refl}
 use Rattle.uac_call.proofs.CallLemmas.{done_check, done_show, done_elements, done_run, done_gen, done_settle}
+use Rattle.uac_call.proofs.BenchLemmas.{asked_full, asked_pair, performs_as}
 use Rattle.uac_call.proofs.CallLemmas.{gen_unread, settle_unread, settled_unread}
 use Rattle.uac_call.proofs.top.do_command.Goals as goal
 
@@ -56,3 +57,18 @@ returns-in-Settle g c = record {
   faultless = (λ unread unwritten. (refl, c.settle.ensures.faultless unwritten));
   ok = (λ reads is. absurd (settle_unread c.args.command c.in-Settle.is reads));
 }
+
+pub returns-in-Full : goal.returns-in-Full
+returns-in-Full g c = performs_as c.args.command _ _ _ _ c.in-Full.is (c.run_full.ensures _)
+
+pub returns-in-Pair : goal.returns-in-Pair
+returns-in-Pair g c = performs_as c.args.command _ _ _ _ c.in-Pair.is (c.run_pair.ensures _)
+
+pub returns-in-Panel : goal.returns-in-Panel
+returns-in-Panel g c = performs_as c.args.command _ _ _ _ c.in-Panel.is (c.run_panel.ensures _)
+
+pub run_full-requires : goal.run_full-requires
+run_full-requires g c = asked_full c.args.command _ c.in-Full.is c.requires.range
+
+pub run_pair-requires : goal.run_pair-requires
+run_pair-requires g c = asked_pair c.args.command _ c.in-Pair.is c.requires.range

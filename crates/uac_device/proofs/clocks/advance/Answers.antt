@@ -3,7 +3,7 @@ use Rattle.uac_device.specs.DeviceKept.{IsDeviationInRange}
 use Rattle.uac_device.specs.DeviceTurns.{clock_after_advance, ticks_where}
 use Rattle.uac_device.specs.declared.clocks.DomainClock.{DomainClock}
 use Rattle.uac_device.proofs.DeviceKeptLemmas.{first_more, first_read}
-use Rattle.uac_device_streams.proofs.ListChangeLemmas.{turned_all, turned_more, untouched, untouched_holds}
+use Rattle.uac_device.proofs.ListChangeLemmas.{turned_all, turned_more, untouched, untouched_holds}
 use Rattle.uac_device.proofs.clocks.advance.Goals as goal
 
 pub advance_one-requires-clause-range : goal.advance_one-requires-clause-range

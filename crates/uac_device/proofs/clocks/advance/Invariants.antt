@@ -2,7 +2,7 @@ use Rattle.std.proofs.Common.{◌≡◌, ◌==◌, take}
 use Rattle.std.specs.List.{find}
 use Rattle.std.specs.Option.{option_and_then}
 use Rattle.uac_device.specs.DeviceTurns.{clock_after_advance, ticks_where}
-use Rattle.uac_device_streams.proofs.ListChangeLemmas.{IsTurnedBelow}
+use Rattle.uac_device.proofs.ListChangeLemmas.{IsTurnedBelow}
 use Rattle.uac_device.proofs.clocks.advance.Given as goal
 
 abbrev pub invariant-loop-clock : goal.invariant-loop-clock

@@ -1,7 +1,7 @@
 use Rattle.std.proofs.Common.{◌∙◌, ap, arith, map, w32, ℤ}
 use Rattle.std.proofs.lemmas.Int.{to_z-of_z}
 use Rattle.uac_device.specs.DeviceTurns.{clock_after_deviation}
-use Rattle.uac_device_streams.proofs.ListChangeLemmas.{turned_all, turned_more}
+use Rattle.uac_device.proofs.ListChangeLemmas.{turned_all, turned_more}
 use Rattle.uac_device.proofs.clocks.deviate.Goals as goal
 
 pub loop-clock-preserved : goal.loop-clock-preserved

@@ -1,5 +1,5 @@
 use Rattle.uac_device.specs.DeviceTurns.{clock_after_deviation}
-use Rattle.uac_device_streams.proofs.ListChangeLemmas.{IsTurnedBelow}
+use Rattle.uac_device.proofs.ListChangeLemmas.{IsTurnedBelow}
 use Rattle.uac_device.proofs.clocks.deviate.Given as goal
 
 abbrev pub invariant-loop-clock : goal.invariant-loop-clock

@@ -1,5 +1,5 @@
 use Rattle.std.proofs.Common.{arith}
-use Rattle.uac_device_streams.proofs.ListChangeLemmas.{turned_all, turned_more}
+use Rattle.uac_device.proofs.ListChangeLemmas.{turned_all, turned_more}
 use Rattle.uac_device.proofs.derived.renew.Goals as goal
 
 pub loop-rate-preserved : goal.loop-rate-preserved

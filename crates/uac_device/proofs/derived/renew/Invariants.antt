@@ -1,5 +1,5 @@
 use Rattle.uac_device.specs.Following.{renewed_rate}
-use Rattle.uac_device_streams.proofs.ListChangeLemmas.{IsTurnedBelow}
+use Rattle.uac_device.proofs.ListChangeLemmas.{IsTurnedBelow}
 use Rattle.uac_device.proofs.derived.renew.Given as goal
 
 abbrev pub invariant-loop-rate : goal.invariant-loop-rate

@@ -3,8 +3,8 @@ use Rattle.std.proofs.Common.{◌≡◌, ◌∙◌, ℕ, List, subst, sym, refl,
 use Rattle.std.specs.Io.KnownBytes.{Appends}
 use Rattle.uac_bench.specs.BenchStreams.{StreamWorld, after_ticks}
 use Rattle.uac_bench.specs.BenchKept.{BenchStreamStands}
-use Rattle.uac_fullspeed.specs.FullSpeedLines.{FsLine, fs_text_of, ticks_lines}
-use Rattle.uac_fullspeed.proofs.FsPrintingLemmas.{FsTells-handed_on}
+use Rattle.uac_fullspeed.specs.FullSpeedLines.{ticks_lines}
+use Rattle.uac_transcript.proofs.PrintingLemmas.{Tells-handed_on}
 use Rattle.uac_fullspeed.proofs.CarryLemmas.{no_ticks_told, ticks_told_more, ticks_told_in_part, ticks_further, ticks_done}
 use Rattle.uac_fullspeed.proofs.carry.play.Goals as goal
 
@@ -17,7 +17,7 @@ loop-ticked-init g c = record {
 pub returns-in_err-play_one-clause-tells : goal.returns-in_err-play_one-clause-tells
 returns-in_err-play_one-clause-tells g c = λ s stands.
     let so_far = c.loop-ticked.invariant.told s stands in
-    FsTells-handed_on _ _ (g.K.Sink.written c.args.sink.now) (g.K.Sink.written c.play_one.new.sink) c.from_residual.result _ c.from_residual.ensures.1
+    Tells-handed_on _ _ (g.K.Sink.written c.args.sink.now) (g.K.Sink.written c.play_one.new.sink) c.from_residual.result _ c.from_residual.ensures.1
     (ticks_told_in_part c.args.detail (g.K.Sink.written c.args.sink.now) (g.K.Sink.written c.loop-ticked.sink) (g.K.Sink.written c.play_one.new.sink) c.loop-ticked._ticked c.args.ticks s
     c.loop-ticked-test.true so_far.0 (c.in_err-play_one.ensures.tells (after_ticks c.loop-ticked._ticked s) so_far.1).0)
 

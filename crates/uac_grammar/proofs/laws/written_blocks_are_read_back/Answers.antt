@@ -1,6 +1,6 @@
 use Rattle.std.proofs.Common.{ap}
-use Rattle.uac_sentence.specs.Sentence.{spellings}
-use Rattle.uac_sentence.proofs.SentenceLemmas.{sentence_none, sentence_unique}
+use Rattle.uac_grammar_rules.specs.Sentence.{spellings}
+use Rattle.uac_grammar_rules.proofs.SentenceLemmas.{sentence_none, sentence_unique}
 use Rattle.uac_grammar.specs.Stop.{stop_at}
 use Rattle.uac_grammar.proofs.laws.written_blocks_are_read_back.Goals as goal
 

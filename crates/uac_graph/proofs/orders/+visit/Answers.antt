@@ -1,6 +1,6 @@
 use Rattle.std.proofs.Common.{◌≡◌, ◌∙◌, sym, refl, ap, subst, arith, ℕ, List, false, ◌-◌, ◌<◌, length, get_or}
 use Rattle.std.proofs.Math.Bool.{or-false}
-use Rattle.uac_walk.specs.Walk.{has_walk}
+use Rattle.uac_topology_rules.specs.Walk.{has_walk}
 use Rattle.uac_entities.specs.declared.entity.Entity.{Entity}
 use Rattle.uac_topology_rules.specs.Links.{is_clock, signal_links}
 use Rattle.uac_topology_rules.specs.Table.{index_of}

@@ -2,7 +2,6 @@ use Rattle.std.proofs.Common.{◌≡◌, ◌∙◌, ap, subst, refl, ℤ, w32, �
 use Rattle.std.proofs.KnownBytes.{Appends-nil}
 use Rattle.std.proofs.lemmas.Int.{to_z-of_z}
 use Rattle.uac_clock.specs.Nominal.{step_of}
-use Rattle.uac_implicit.specs.PairLines.{is_number}
 use Rattle.uac_implicit.proofs.PairKeptLemmas.{deviated_stands}
 use Rattle.uac_implicit.proofs.PairStepLemmas.{reached_by, number_by}
 use Rattle.uac_implicit.proofs.lines.deviate.Goals as goal

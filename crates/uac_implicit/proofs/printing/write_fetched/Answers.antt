@@ -4,7 +4,7 @@ use Rattle.uac_edges.specs.Writing.{AppendsFront}
 use Rattle.uac_transcript.specs.Transcript.{says_in, says_frame}
 use Rattle.uac_transcript.specs.Printing.{text_of}
 use Rattle.uac_transcript.proofs.PrintingLemmas.{Prints-after, front_of_more}
-use Rattle.uac_implicit.specs.Following.{if_said}
+use Rattle.uac_bench.specs.BenchLines.{if_said}
 use Rattle.uac_implicit.proofs.printing.write_fetched.Goals as goal
 
 pub returns-clause-printed : goal.returns-clause-printed

@@ -1,5 +1,5 @@
 use Rattle.std.proofs.Common.{arith}
-use Rattle.uac_device_streams.proofs.ListChangeLemmas.{turned_more, untouched_holds}
+use Rattle.uac_device.proofs.ListChangeLemmas.{turned_more, untouched_holds}
 use Rattle.uac_mixer.specs.Readable.{IsReadable}
 use Rattle.uac_mixer.specs.ViewTransfers.{came_of}
 use Rattle.uac_mixer.proofs.transfers.follow_all.Goals as goal

@@ -1,4 +1,4 @@
-use Rattle.uac_device_streams.proofs.ListChangeLemmas.{IsTurnedBelow}
+use Rattle.uac_device.proofs.ListChangeLemmas.{IsTurnedBelow}
 use Rattle.uac_mixer.specs.ViewTransfers.{came_of, element_after}
 use Rattle.uac_mixer.proofs.transfers.follow_all.Given as goal
 

@@ -5,7 +5,7 @@ use Rattle.uac_graph.specs.Meaning.{entity}
 use Rattle.uac_device.specs.DeviceWorld.{is_input_jack}
 use Rattle.uac_running.specs.declared.jacks.Jack.{Jack}
 use Rattle.uac_running.specs.Events.{after_one}
-use Rattle.uac_device_streams.proofs.ListChangeLemmas.{turned_all, turned_more, untouched_holds}
+use Rattle.uac_device.proofs.ListChangeLemmas.{turned_all, turned_more, untouched_holds}
 use Rattle.uac_running.proofs.RunningKeptJackLemmas.{gives_next}
 use Rattle.uac_running.proofs.jacks.give_jacks.Goals as goal
 

@@ -2,7 +2,7 @@ use Rattle.std.proofs.Common.{◌≡◌, take}
 use Rattle.uac_device.specs.DeviceKept.{DeviceStands}
 use Rattle.uac_device.specs.DeviceWorld.{DeviceWorld}
 use Rattle.uac_running.specs.Events.{after_one, after_jacks}
-use Rattle.uac_device_streams.proofs.ListChangeLemmas.{IsTurnedBelow}
+use Rattle.uac_device.proofs.ListChangeLemmas.{IsTurnedBelow}
 use Rattle.uac_running.proofs.jacks.give_jacks.Given as goal
 
 abbrev pub invariant-loop-jack : goal.invariant-loop-jack

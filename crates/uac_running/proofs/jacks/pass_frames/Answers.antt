@@ -1,6 +1,6 @@
 use Rattle.std.proofs.Common.{arith}
 use Rattle.uac_running.specs.Events.{after_one}
-use Rattle.uac_device_streams.proofs.ListChangeLemmas.{turned_all, turned_more}
+use Rattle.uac_device.proofs.ListChangeLemmas.{turned_all, turned_more}
 use Rattle.uac_running.proofs.jacks.pass_frames.Goals as goal
 
 pub loop-passed-preserved : goal.loop-passed-preserved

@@ -1,5 +1,5 @@
 use Rattle.uac_running.specs.Events.{after_one}
-use Rattle.uac_device_streams.proofs.ListChangeLemmas.{IsTurnedBelow}
+use Rattle.uac_device.proofs.ListChangeLemmas.{IsTurnedBelow}
 use Rattle.uac_running.proofs.jacks.pass_frames.Given as goal
 
 abbrev pub invariant-loop-passed : goal.invariant-loop-passed

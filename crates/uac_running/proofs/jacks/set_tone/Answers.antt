@@ -1,6 +1,6 @@
 use Rattle.std.proofs.Common.{arith}
 use Rattle.uac_running.specs.RunningWorld.{jack_with_tone}
-use Rattle.uac_device_streams.proofs.ListChangeLemmas.{turned_all, turned_more}
+use Rattle.uac_device.proofs.ListChangeLemmas.{turned_all, turned_more}
 use Rattle.uac_running.proofs.jacks.set_tone.Goals as goal
 
 pub loop-jack-preserved : goal.loop-jack-preserved

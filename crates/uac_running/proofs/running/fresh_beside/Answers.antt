@@ -3,7 +3,7 @@ use Rattle.std.specs.List.{filter}
 use Rattle.uac_entities.specs.declared.entity.Entity.{Entity}
 use Rattle.uac_device.specs.DeviceWorld.{is_input_jack}
 use Rattle.uac_running.specs.RunningWorld.{silent_jack}
-use Rattle.uac_report.specs.TickCounts.{none_counted}
+use Rattle.uac_running.specs.TickCounts.{none_counted}
 use Rattle.uac_running.proofs.running.fresh_beside.Goals as goal
 
 pub returns-clause-jacks : goal.returns-clause-jacks

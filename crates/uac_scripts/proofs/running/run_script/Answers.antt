@@ -1,7 +1,7 @@
 use Rattle.uac_units.specs.MeterReadings.{readings}
 use Rattle.uac_script.specs.LineParsing.{answer}
 use Rattle.uac_rows.specs.BusWorld.{start}
-use Rattle.uac_scripts.proofs.BusLemmas.{answers_by_table, fronts_keep_promises}
+use Rattle.uac_scripts.proofs.BusLemmas.{answers_by_table, fronts_keep_promises, lines_are_sayings, lines_begin, printed_read_back}
 use Rattle.uac_scripts.proofs.running.run_script.Goals as goal
 
 pub run_script-status-requires-clause-fits : goal.run_script-status-requires-clause-fits
@@ -15,7 +15,10 @@ returns-clause-run g c =
       says = answer;
       by_table = answers_by_table;
       run = ran.run;
+      as_said = lines_are_sayings answer;
       promised = fronts_keep_promises answer shown ran.run.lived.texts answers_by_table;
+      within_a_line = lines_begin answer shown ran.run.lived.texts answers_by_table;
+      read_back = printed_read_back answer ran.run.lived.texts (start shown) ran.run.ending.lines ran.run.lived.printed;
     }
 
 pub returns-clause-read_fault : goal.returns-clause-read_fault

@@ -1,6 +1,6 @@
 use Rattle.std.proofs.Common.{◌≡◌, ◌<◌, ℕ, List, [], length, get_or, arith, ap, ◌∙◌, subst}
 use Rattle.std.proofs.lemmas.List.{get_or_read}
-use Rattle.uac_walk.specs.Walk.{links}
+use Rattle.uac_topology_rules.specs.Walk.{links}
 use Rattle.uac_entities.specs.declared.entity.Entity.{Entity}
 use Rattle.uac_topology_rules.specs.declared.signals.Behind.{Behind}
 use Rattle.uac_topology_rules.specs.declared.signals.Behind.TheVariants as clocks

@@ -1,9 +1,9 @@
 use Rattle.std.proofs.Common.{◌≡◌, ◌<◌, ℕ, true, false, List, length, get_or, arith, ap, sym, ◌∙◌, subst}
-use Rattle.uac_walk.specs.Walk.{has_walk}
+use Rattle.uac_topology_rules.specs.Walk.{has_walk}
 use Rattle.uac_entities.specs.declared.entity.Entity.{Entity}
 use Rattle.uac_topology_rules.specs.Table.{at}
 use Rattle.uac_topology_rules.specs.RuleNumbers.{number}
-use Rattle.uac_topology_rules.specs.Walks.{goes_on}
+use Rattle.uac_topology_rules.specs.WalkRules.{goes_on}
 use Rattle.uac_topology_rules.proofs.TableIdLemmas.{at_read}
 use Rattle.uac_topology_rules.proofs.RuleFaultsLemmas.{entity_breaks, no_entity_breaks, same_fault}
 use Rattle.uac_topology_rules.proofs.walks.judge.Goals as goal

@@ -1,5 +1,5 @@
 use Rattle.std.proofs.Common.{◌≡◌, ℕ, ◌<◌, false}
-use Rattle.uac_topology_rules.specs.Walks.{goes_on}
+use Rattle.uac_topology_rules.specs.WalkRules.{goes_on}
 use Rattle.uac_topology_rules.proofs.walks.judge.Given as goal
 
 abbrev pub invariant-loop-index : goal.invariant-loop-index

@@ -1,8 +1,8 @@
 use Rattle.std.proofs.Common.{◌≡◌, ℕ, List, sym, ◌∙◌, subst}
-use Rattle.uac_walk.specs.Order.{IsClosed, IsOrder}
+use Rattle.uac_topology_rules.specs.Order.{IsClosed, IsOrder}
 use Rattle.uac_topology_rules.specs.Links.{signal_links, clock_links}
 use Rattle.uac_topology_rules.proofs.LinksLemmas.{signal_closed, clock_closed}
-use Rattle.uac_topology_rules.proofs.WalksLemmas.{walks_are}
+use Rattle.uac_topology_rules.proofs.WalkRulesLemmas.{walks_are}
 use Rattle.uac_topology_rules.proofs.walks.walk.Goals as goal
 
 pub sources_first_order-requires : goal.sources_first_order-requires

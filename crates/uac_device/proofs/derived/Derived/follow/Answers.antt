@@ -6,7 +6,7 @@ use Rattle.uac_graph.specs.GraphControls.{controls_in}
 use Rattle.uac_graph.specs.Jobs.{AreJobs}
 use Rattle.uac_device.specs.Following.{IsDerived, IsDomainRate, renewed_rate}
 use Rattle.uac_device.proofs.FollowingLemmas.{renewed_paces, same_paces}
-use Rattle.uac_device_streams.proofs.ListChangeLemmas.{turned_back}
+use Rattle.uac_device.proofs.ListChangeLemmas.{turned_back}
 use Rattle.uac_device.proofs.derived.Derived.follow.Goals as goal
 
 pub returns-then-not-sets_control : goal.returns-then-not-sets_control

@@ -6,7 +6,7 @@ use Rattle.uac_device.specs.DeviceKept.{DeviceFields, IsDeviationInRange, Device
 use Rattle.uac_device.specs.DeviceTurns.{clock_after_deviation}
 use Rattle.uac_device.specs.contracts.device.Device.{the_view}
 use Rattle.uac_device.proofs.DeviceKeptLemmas.{deviated_domains, deviated_phases, deviated_range, deviated_stands}
-use Rattle.uac_device_streams.proofs.ListChangeLemmas.{put_back}
+use Rattle.uac_device.proofs.ListChangeLemmas.{put_back}
 use Rattle.uac_device.proofs.device.Device.deviate.Goals as goal
 
 pub invariant_of-self : goal.invariant_of-self

@@ -6,19 +6,19 @@ use Rattle.uac_device.proofs.DeviceKeptStreamLemmas.{device_with_streams, sent_s
 use Rattle.uac_device.proofs.device.Device.microframe_in.Goals as goal
 
 pub invariant_of-self : goal.invariant_of-self
-invariant_of-self c = (device_with_streams (the_view c.self.inside) c.send.new.self c.self.invariant.0 c.send.ensures.ports, c.self.invariant.1, c.self.invariant.2)
+invariant_of-self c = (device_with_streams (the_view c.self.inside) c.send_in.new.self c.self.invariant.0 c.send_in.ensures.ports, c.self.invariant.1, c.self.invariant.2)
 
 pub returns-clause-stands : goal.returns-clause-stands
 returns-clause-stands c w stands =
     let here = subst (λ (device : DeviceFields). DeviceStands device w) (sym c.self.view_is) stands in
-    sent_stands (the_view c.self.inside) c.send.new.self w c.args.interface here (c.send.ensures.stands w.outs w.ins here.streams)
+    sent_stands (the_view c.self.inside) c.send_in.new.self w c.args.interface here (c.send_in.ensures.stands w.outs w.ins here.streams)
 
 pub returns-clause-packet : goal.returns-clause-packet
 unfolding packet_in
 returns-clause-packet c w stands =
-    let here = subst (λ (device : DeviceFields). DeviceStands device w) (sym c.self.view_is) stands in c.send.ensures.packet w.outs w.ins here.streams
+    let here = subst (λ (device : DeviceFields). DeviceStands device w) (sym c.self.view_is) stands in c.send_in.ensures.packet w.outs w.ins here.streams
 
 pub returns-clause-frames : goal.returns-clause-frames
 unfolding frames_in
 returns-clause-frames c w stands =
-    let here = subst (λ (device : DeviceFields). DeviceStands device w) (sym c.self.view_is) stands in c.send.ensures.frames w.outs w.ins here.streams
+    let here = subst (λ (device : DeviceFields). DeviceStands device w) (sym c.self.view_is) stands in c.send_in.ensures.frames w.outs w.ins here.streams

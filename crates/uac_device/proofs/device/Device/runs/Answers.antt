@@ -1,8 +1,8 @@
 use Rattle.std.proofs.Common.{◌∙◌, ap, subst, sym}
 use Rattle.std.specs.List.{list_any}
 use Rattle.uac_entities.specs.declared.stream.StreamInterface.{StreamInterface}
-use Rattle.uac_device_streams.specs.InterfaceStreams.{runs_either}
-use Rattle.uac_device_streams.specs.declared.device_stream.Port.{Port}
+use Rattle.uac_device.specs.InterfaceStreams.{runs_either}
+use Rattle.uac_device.specs.declared.device_stream.Port.{Port}
 use Rattle.uac_device.specs.DeviceWorld.{runs_one}
 use Rattle.uac_device.specs.DeviceKept.{DeviceFields, DeviceStands}
 use Rattle.uac_device.proofs.DeviceKeptStreamLemmas.{one_port_runs}

@@ -10,7 +10,7 @@ use Rattle.uac_graph.proofs.FitnessLemmas.{sound_graph}
 use Rattle.uac_units.specs.MeterReadings.{readings}
 use Rattle.uac_device.specs.DeviceWorld.{after_frames, after_tick}
 use Rattle.uac_device.specs.DeviceKept.{DeviceFields, DeviceStands}
-use Rattle.uac_device_streams.specs.DeviceStreams.{IsWiredOut}
+use Rattle.uac_device.specs.DeviceStreams.{IsWiredOut}
 use Rattle.uac_device.specs.DeviceTurns.{frames_heard}
 use Rattle.uac_device.specs.contracts.device.Device.{the_view}
 use Rattle.uac_device.proofs.LinkedLemmas.{linked}

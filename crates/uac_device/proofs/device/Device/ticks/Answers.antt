@@ -8,11 +8,11 @@ use Rattle.uac_device.specs.contracts.device.Device.{the_view}
 use Rattle.uac_device.proofs.DeviceTurnsTickLemmas.{few_ticks, rated_nominal}
 use Rattle.uac_device.proofs.DeviceKeptLemmas.{advanced_domains, advanced_phases, advanced_range, advanced_stands, ticks_next}
 use Rattle.uac_flow.specs.FlowStreams.{after_ticks}
-use Rattle.uac_device_streams.specs.InterfaceStreams.{changed_where}
+use Rattle.uac_device.specs.InterfaceStreams.{changed_where}
 use Rattle.uac_device.specs.DeviceWorld.{is_on, next_ticks}
-use Rattle.uac_device_streams.specs.DeviceStreams.{DeviceStreamsStand}
+use Rattle.uac_device.specs.DeviceStreams.{DeviceStreamsStand}
 use Rattle.uac_device.proofs.DeviceKeptStreamLemmas.{ports_on}
-use Rattle.uac_device_streams.proofs.ListChangeLemmas.{put_back}
+use Rattle.uac_device.proofs.ListChangeLemmas.{put_back}
 use Rattle.uac_device.proofs.device.Device.ticks.Goals as goal
 
 pub invariant_of-self : goal.invariant_of-self

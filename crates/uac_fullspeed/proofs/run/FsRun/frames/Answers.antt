@@ -2,7 +2,8 @@
 use Rattle.std.proofs.Common.{◌≡◌, ◌∙◌, subst, sym, refl}
 use Rattle.uac_fullspeed.specs.FullSpeedWorld.{FullSpeedWorld, bus_frames}
 use Rattle.uac_fullspeed.specs.FullSpeedKept.{FsRunStandsBetween}
-use Rattle.uac_fullspeed.proofs.FsPrintingLemmas.{FsTells-handed_on}
+use Rattle.uac_transcript.proofs.PrintingLemmas.{spelt-handed_on}
+use Rattle.uac_fullspeed.specs.FullSpeedLines.{fs_spelling_of}
 use Rattle.uac_fullspeed.proofs.RunLemmas.{no_frames_told, frames_told_more, frames_told_in_part, frames_further, frames_done}
 use Rattle.uac_fullspeed.proofs.run.FsRun.frames.Goals as goal
 
@@ -15,7 +16,7 @@ loop-passed-init g c = record {
 pub returns-in_err-frame-clause-tells : goal.returns-in_err-frame-clause-tells
 returns-in_err-frame-clause-tells g c = λ w stands.
     let so_far = c.loop-passed.invariant.told w stands in
-    FsTells-handed_on _ _ (g.K.Sink.written c.args.sink.now) (g.K.Sink.written c.frame.new.sink) c.from_residual.result _ c.from_residual.ensures.1
+    spelt-handed_on fs_spelling_of _ _ (g.K.Sink.written c.args.sink.now) (g.K.Sink.written c.frame.new.sink) c.from_residual.result _ c.from_residual.ensures.1
     (frames_told_in_part c.args.packet_lost c.args.report_lost (g.K.Sink.written c.args.sink.now) (g.K.Sink.written c.loop-passed.sink) (g.K.Sink.written c.frame.new.sink) c.loop-passed._passed c.args.count w
     c.loop-passed-test.true so_far.0 (c.in_err-frame.ensures.tells (bus_frames c.loop-passed._passed c.args.packet_lost c.args.report_lost w) so_far.1).0)
 

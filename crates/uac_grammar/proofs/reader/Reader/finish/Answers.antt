@@ -1,6 +1,6 @@
 use Rattle.std.proofs.Common.{◌≡◌, ℕ, List, [], ◌++◌, ap, sym, ◌∙◌}
 use Rattle.std.proofs.lemmas.List.{append-nil}
-use Rattle.uac_sentence.specs.Sentence.{spellings}
+use Rattle.uac_grammar_rules.specs.Sentence.{spellings}
 use Rattle.uac_grammar.specs.ReaderKept.{ReaderFields}
 use Rattle.uac_grammar.specs.Stop.{stop_at, first_stop}
 use Rattle.uac_grammar.proofs.ReaderKeptLemmas.{shown_stop_first, going_end, going_sentence}

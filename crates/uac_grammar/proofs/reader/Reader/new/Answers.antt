@@ -1,5 +1,5 @@
 use Rattle.std.proofs.Common.{[], None, refl}
-use Rattle.uac_sentence.specs.Grammar.{start}
+use Rattle.uac_grammar_rules.specs.Grammar.{start}
 use Rattle.uac_grammar.proofs.ReaderKeptLemmas.{reading_going, going_start}
 use Rattle.uac_grammar.proofs.reader.Reader.new.Goals as goal
 

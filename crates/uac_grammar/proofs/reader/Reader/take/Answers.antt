@@ -1,6 +1,6 @@
 use Rattle.std.proofs.Common.{◌≡◌, ◌+◌, ℕ, List, [], ◌++◌, length, take, drop, ap, sym, ◌∙◌, arith, rules, length-append, append_assoc}
 use Rattle.std.proofs.lemmas.List.{length-take-le}
-use Rattle.uac_sentence.specs.Sentence.{spellings}
+use Rattle.uac_grammar_rules.specs.Sentence.{spellings}
 use Rattle.uac_grammar.specs.ReaderKept.{ReaderFields}
 use Rattle.uac_grammar.specs.Stop.{shown_stop}
 use Rattle.uac_grammar.proofs.ReaderKeptLemmas.{more_bytes, going_more, going_stays, taken_kept, taken_more, reading_going, reading_refused, refused_shows, unstopped}

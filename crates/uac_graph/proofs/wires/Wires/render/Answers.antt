@@ -21,14 +21,14 @@ render-requires-clause-fits g c =
     let frames = map (samples_on c.args.self.now) e.sources in
     let row : c.gather.new.pins.items ≡ in_a_row frames =
     c.gather.ensures ∙ ap (λ s. in_a_row (map (samples_on c.self.inside.frames) s)) c.as_slice.ensures ∙ ap (λ (w : Frames). in_a_row (map (samples_on w) e.sources)) c.self.view_is in
-    fits_unit c.requires.job.0 e _ frames c.gather.new.pins.items c.args.job.now c.in-Some.ensures (length-map e.sources (samples_on c.args.self.now)) row
+    fits_unit c.requires.job.0 e _ frames c.gather.new.pins.items c.args.job.now c.in-Some.ensures.kind (length-map e.sources (samples_on c.args.self.now)) row
     c.requires.job.1 c.requires.fits
 
 pub render-requires-clause-there : goal.render-requires-clause-there
 render-requires-clause-there g c =
     let e = c.args.entity.now in
     ap (λ (w : Frames). option_map length (frame_on w e.id)) c.self.view_is ∙ c.requires.there
-    ∙ ap Some (sym (c.requires.job.1 _ (sym c.in-Some.ensures)).outputs)
+    ∙ ap Some (sym (c.requires.job.1 _ (sym c.in-Some.ensures.kind)).outputs)
 
 pub pass_on-requires-clause-few : goal.pass_on-requires-clause-few
 pass_on-requires-clause-few g c =
@@ -37,7 +37,7 @@ pass_on-requires-clause-few g c =
     let row : c.gather.new.pins.items ≡ in_a_row frames =
     c.gather.ensures ∙ ap (λ s. in_a_row (map (samples_on c.self.inside.frames) s)) c.as_slice.ensures ∙ ap (λ (w : Frames). in_a_row (map (samples_on w) e.sources)) c.self.view_is in
     subst (λ (pins : List ℤ). length pins ≤ 32) (sym row)
-    (passed_on c.requires.job.0 e.id e.kind e.cluster.channels frames (sym c.in-None.ensures) c.requires.fits).1
+    (passed_on c.requires.job.0 e.id e.kind e.cluster.channels frames (sym c.in-None.ensures.kind) c.requires.fits).1
 
 pub pass_on-requires-clause-there : goal.pass_on-requires-clause-there
 pass_on-requires-clause-there g c =
@@ -48,7 +48,7 @@ pass_on-requires-clause-there g c =
     c.gather.ensures ∙ ap (λ s. in_a_row (map (samples_on c.self.inside.frames) s)) c.as_slice.ensures ∙ ap (λ (w : Frames). in_a_row (map (samples_on w) e.sources)) c.self.view_is in
     ap (λ (w : Frames). option_map length (frame_on w e.id)) c.self.view_is ∙ c.requires.there
     ∙ ap Some (sym (
-    ap length (row ∙ (passed_on controls e.id e.kind e.cluster.channels frames (sym c.in-None.ensures) c.requires.fits).0)
+    ap length (row ∙ (passed_on controls e.id e.kind e.cluster.channels frames (sym c.in-None.ensures.kind) c.requires.fits).0)
     ∙ length-frame_of controls e.id e.kind e.cluster.channels frames))
 
 pub returns-in-Some-clause-frames : goal.returns-in-Some-clause-frames
@@ -58,7 +58,7 @@ returns-in-Some-clause-frames g c controls has id =
     let row : c.gather.new.pins.items ≡ in_a_row frames =
     c.gather.ensures ∙ ap (λ s. in_a_row (map (samples_on c.self.inside.frames) s)) c.as_slice.ensures ∙ ap (λ (w : Frames). in_a_row (map (samples_on w) e.sources)) c.self.view_is in
     wire_by c.self.inside.frames c.args.self.now e.id id _ _ _ c.self.view_is
-    (rendered_unit controls e _ frames c.gather.new.pins.items c.args.job.now c.in-Some.ensures (length-map e.sources (samples_on c.args.self.now)) row has
+    (rendered_unit controls e _ frames c.gather.new.pins.items c.args.job.now c.in-Some.ensures.kind (length-map e.sources (samples_on c.args.self.now)) row has
     c.requires.fits)
     (c.render.ensures.frames id)
 
@@ -71,4 +71,4 @@ returns-in-None-clause-frames g c controls has id =
     c.pass_on.ensures id
     ∙ ap (λ (w : Frames). if eqb e.id id then Some c.gather.new.pins.items else frame_on w id) c.self.view_is
     ∙ ap (λ (samples : List ℤ). if eqb e.id id then Some samples else frame_on c.args.self.now id)
-    (row ∙ (passed_on controls e.id e.kind e.cluster.channels frames (sym c.in-None.ensures) c.requires.fits).0)
+    (row ∙ (passed_on controls e.id e.kind e.cluster.channels frames (sym c.in-None.ensures.kind) c.requires.fits).0)

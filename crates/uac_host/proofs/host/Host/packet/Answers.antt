@@ -12,7 +12,7 @@ returns-in-Some-clause-size c w stands =
     let old = c.index_mut.result.now in
     let is : Some c.in-Some.index ≡ host_stream_index c.args.interface host_streams = cc (c.in-Some.ensures, c.self.view_is) in
     let read = kept_at now host_streams w c.args.interface c.in-Some.index old c.self.view_is stands is c.index_mut.ensures.value in
-    c.send.ensures.size w read.0 ∙ ap (size_of w) read.1
+    c.send_out.ensures.size w read.0 ∙ ap (size_of w) read.1
 
 pub returns-in-Some-clause-packet : goal.returns-in-Some-clause-packet
 returns-in-Some-clause-packet c w stands =
@@ -21,7 +21,7 @@ returns-in-Some-clause-packet c w stands =
     let old = c.index_mut.result.now in
     let is : Some c.in-Some.index ≡ host_stream_index c.args.interface host_streams = cc (c.in-Some.ensures, c.self.view_is) in
     let read = kept_at now host_streams w c.args.interface c.in-Some.index old c.self.view_is stands is c.index_mut.ensures.value in
-    c.send.ensures.packet w read.0 ∙ ap (packet_of w) read.1
+    c.send_out.ensures.packet w read.0 ∙ ap (packet_of w) read.1
 
 pub returns-in-Some-clause-stands : goal.returns-in-Some-clause-stands
 returns-in-Some-clause-stands c w stands =
@@ -30,9 +30,9 @@ returns-in-Some-clause-stands c w stands =
     let old = c.index_mut.result.now in
     let is : Some c.in-Some.index ≡ host_stream_index c.args.interface host_streams = cc (c.in-Some.ensures, c.self.view_is) in
     let read = kept_at now host_streams w c.args.interface c.in-Some.index old c.self.view_is stands is c.index_mut.ensures.value in
-    put_back now host_streams w (after_host_packet c.args.interface w) c.args.interface c.in-Some.index old c.send.new.self c.self.view_is stands
+    put_back now host_streams w (after_host_packet c.args.interface w) c.args.interface c.in-Some.index old c.send_out.new.self c.self.view_is stands
     (packet_turns now w c.args.interface stands) is
-    (c.send.ensures.stands w read.0 ∙ ap (λ (n : ℕ). kept_stream (after_host_packet n w) n) read.1)
+    (c.send_out.ensures.stands w read.0 ∙ ap (λ (n : ℕ). kept_stream (after_host_packet n w) n) read.1)
 
 pub returns-in-None-clause-size : goal.returns-in-None-clause-size
 returns-in-None-clause-size c w stands =

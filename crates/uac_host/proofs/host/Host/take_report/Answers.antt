@@ -12,9 +12,9 @@ returns-in-Some c = record {
       let old = c.index_mut.result.now in
       let is : Some c.in-Some.index ≡ host_stream_index c.args.interface host_streams = cc (c.in-Some.ensures, c.self.view_is) in
       let read = kept_at now host_streams w c.args.interface c.in-Some.index old c.self.view_is stands is c.index_mut.ensures.value in
-      put_back now host_streams w (with_report c.args.interface c.args.value w) c.args.interface c.in-Some.index old c.report.new.self c.self.view_is stands
+      put_back now host_streams w (with_report c.args.interface c.args.value w) c.args.interface c.in-Some.index old c.take_report.new.self c.self.view_is stands
       (report_turns now w c.args.interface c.args.value stands) is
-      (report_kept w c.args.interface c.args.value old c.report.new.self read.0 read.1 c.report.ensures));
+      (report_kept w c.args.interface c.args.value old c.take_report.new.self read.0 read.1 c.take_report.ensures));
 }
 
 pub returns-in-None : goal.returns-in-None

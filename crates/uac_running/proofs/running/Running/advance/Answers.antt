@@ -1,7 +1,7 @@
 use Rattle.std.proofs.Common.{◌∙◌, ap, sym, subst, refl}
 use Rattle.uac_running.specs.RunningKept.{RunningFields, RunningStands}
-use Rattle.uac_report.specs.TickCounts.{more_counted}
-use Rattle.uac_device_streams.proofs.ListChangeLemmas.{turned_back}
+use Rattle.uac_running.specs.TickCounts.{more_counted}
+use Rattle.uac_device.proofs.ListChangeLemmas.{turned_back}
 use Rattle.uac_running.proofs.RunningKeptLemmas.{clocks_of, clocks-more, domains_kept}
 use Rattle.uac_running.proofs.RunningKeptJackLemmas.{jacks_kept}
 use Rattle.uac_running.proofs.EventsLemmas.{advanced_on, view_still}

@@ -3,7 +3,7 @@ use Rattle.uac_mixer.specs.ViewTransfers.{came_of}
 use Rattle.uac_transcript.specs.Transcript.{TransferOutcome, says_answer}
 use Rattle.uac_transcript.specs.Printing.{Prints}
 use Rattle.uac_running.specs.RunningKept.{RunningStandsBetween}
-use Rattle.uac_configuration.specs.Configuration.{configuration_of}
+use Rattle.uac_topology.specs.Configuration.{configuration_of}
 use Rattle.uac_running.specs.RunningTransfers.{comes_back, outcome_of, transfer, after_transfer}
 use Rattle.uac_running.proofs.TellingLemmas.{at_ok}
 use Rattle.uac_running.proofs.RoomLemmas.{transferred_room}

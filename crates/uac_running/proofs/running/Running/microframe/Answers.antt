@@ -47,6 +47,6 @@ returns-clause-tells g c r stands =
     let own = c.function.ensures ∙ ap (λ (p : RunningFields). p.device.function) c.self.view_is ∙ stands.now.streaming.device.function in
     let small = subst HaveSmallNumbers own kept.bytes in
     let first = c.in_ok-packets_and_ticks.ensures.tells (numbered r) later in
-    microframe_told marks r c.ends_and_reports.new.self showing (g.K.Sink.written c.args.sink.now) (g.K.Sink.written c.write_number.new.sink) (g.K.Sink.written c.packets_and_ticks.new.sink)
-    (g.K.Sink.written c.ends_and_reports.new.sink) c.ends_and_reports.result (one_microframe marks r small stands.room) number first.0
-    (c.ends_and_reports.ensures.tells showing (packets_and_ticks marks (numbered r)).world first.1 (zeros_fit_in marks (numbered r) stands.room))
+    microframe_told marks r c.ends_and_feedback.new.self showing (g.K.Sink.written c.args.sink.now) (g.K.Sink.written c.write_number.new.sink) (g.K.Sink.written c.packets_and_ticks.new.sink)
+    (g.K.Sink.written c.ends_and_feedback.new.sink) c.ends_and_feedback.result (one_microframe marks r small stands.room) number first.0
+    (c.ends_and_feedback.ensures.tells showing (packets_and_ticks marks (numbered r)).world first.1 (zeros_fit_in marks (numbered r) stands.room))

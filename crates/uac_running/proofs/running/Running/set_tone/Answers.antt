@@ -1,7 +1,7 @@
 use Rattle.std.proofs.Common.{sym, subst, refl}
 use Rattle.uac_running.specs.RunningWorld.{jack_with_tone, with_jack_tone}
 use Rattle.uac_running.specs.RunningKept.{RunningFields, RunningStands}
-use Rattle.uac_device_streams.proofs.ListChangeLemmas.{turned_back}
+use Rattle.uac_device.proofs.ListChangeLemmas.{turned_back}
 use Rattle.uac_running.proofs.RunningKeptLemmas.{domains_kept}
 use Rattle.uac_running.proofs.RunningKeptJackLemmas.{jacks_toned}
 use Rattle.uac_running.proofs.EventsLemmas.{toned_on}

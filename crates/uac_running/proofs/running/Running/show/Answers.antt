@@ -1,7 +1,7 @@
 use Rattle.std.proofs.Common.{◌∙◌, sym, ap, nat_le, if◌then◌else◌, []}
 use Rattle.uac_streaming.specs.StreamingWorld.{found_lines}
 use Rattle.uac_transcript.proofs.PrintingLemmas.{Prints-after, front_of_more}
-use Rattle.uac_report.specs.ReportLines.{played_lines}
+use Rattle.uac_running.specs.ReportLines.{played_lines}
 use Rattle.uac_running.specs.RunningKept.{RunningFields}
 use Rattle.uac_edges.proofs.WritingLemmas.{Writes-handed_on}
 use Rattle.uac_running.proofs.running.Running.show.Goals as goal

@@ -13,7 +13,7 @@ returns-then-not-due-clause-tells g c = λ w stands.
 pub returns-clause-tells : goal.returns-clause-tells
 returns-clause-tells g c = λ w stands.
     let marks = map phrase_mark c.args.marks.now in
-    out_told c.args.detail c.args.interface marks w c.due.result (c.due.ensures w.device stands.device) c.send-sent.new.self c.send-sent.new.device
-    (g.K.Sink.written c.args.sink.now) (g.K.Sink.written c.write_sent.new.sink) c.write_sent.result c.send-sent.result.frames c.send-sent.result.arrival c.loses_out.result
-    c.if-not-due.false c.loses_out.ensures (c.send-sent.ensures.frames w stands) (c.send-sent.ensures.arrival w stands) (c.send-sent.ensures.stands w stands)
-    c.write_sent.ensures.printed
+    out_told c.args.detail c.args.interface marks w c.due.result (c.due.ensures w.device stands.device) c.send_out-sent.new.self c.send_out-sent.new.device
+    (g.K.Sink.written c.args.sink.now) (g.K.Sink.written c.write_sent_out.new.sink) c.write_sent_out.result c.send_out-sent.result.frames c.send_out-sent.result.arrival c.loses_out.result
+    c.if-not-due.false c.loses_out.ensures (c.send_out-sent.ensures.frames w stands) (c.send_out-sent.ensures.arrival w stands) (c.send_out-sent.ensures.stands w stands)
+    c.write_sent_out.ensures.printed

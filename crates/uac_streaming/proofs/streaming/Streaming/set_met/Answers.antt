@@ -1,7 +1,7 @@
 use Rattle.std.proofs.Common.{◌≡◌, ◌∙◌, ap, sym, length}
 use Rattle.std.proofs.lemmas.List.{length-set}
 use Rattle.uac_ring.specs.declared.counts.StreamCounts.{StreamCounts}
-use Rattle.uac_device_streams.proofs.ListChangeLemmas.{put_back}
+use Rattle.uac_device.proofs.ListChangeLemmas.{put_back}
 use Rattle.uac_streaming.specs.StreamingKept.{StreamingFields}
 use Rattle.uac_streaming.specs.StreamingWorld.{met_in}
 use Rattle.uac_streaming.proofs.StreamingWorldCountLemmas.{counts_put, counts_stay, index_below}

@@ -17,8 +17,8 @@ returns-then-is_some c d w stands same =
     let own = subst (λ (f : FunctionFields). IfSome c.args.begun (λ s. IsStreamOf f c.args.interface (stream_fields s))) (sym (stands.same ∙ same)) c.requires.begun in
     let mid =
     hosted (the_view c.self.inside) d w here c.set_stream.new.self (with_stream c.args.interface begun w.host) (c.set_stream.ensures.stands w.host here.host own) refl in
-    followed_so c.start_reports.new.self d w c.args.interface begun true (seen_some c.args.begun ∙ sym c.is_some.ensures ∙ c.if-is_some.true)
-    (c.start_reports.ensures d (record w { host = with_stream c.args.interface begun w.host }) mid same)
+    followed_so c.start_feedback.new.self d w c.args.interface begun true (seen_some c.args.begun ∙ sym c.is_some.ensures ∙ c.if-is_some.true)
+    (c.start_feedback.ensures d (record w { host = with_stream c.args.interface begun w.host }) mid same)
 
 pub returns-else-is_some : goal.returns-else-is_some
 unfolding with_stream

@@ -1,5 +1,5 @@
 use Rattle.std.proofs.Common.{◌≡◌, ◌<◌, ℕ, List, length, get_or, map, sum, arith, ap, sym, ◌∙◌, subst}
-use Rattle.uac_walk.specs.Walk.{links}
+use Rattle.uac_topology_rules.specs.Walk.{links}
 use Rattle.uac_entities.specs.Entities.{no_cluster}
 use Rattle.uac_entities.specs.declared.entity.Cluster.{Cluster}
 use Rattle.uac_entities.specs.declared.entity.Entity.{Entity}

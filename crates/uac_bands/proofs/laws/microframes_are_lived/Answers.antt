@@ -1,8 +1,0 @@
-use Rattle.uac_bands.proofs.ProjectionLifeLemmas.{microframes_are_lived, tracks_go_on}
-use Rattle.uac_bands.proofs.laws.microframes_are_lived.Goals as goal
-
-pub returns-clause-life : goal.returns-clause-life
-returns-clause-life c = microframes_are_lived
-
-pub returns-clause-track : goal.returns-clause-track
-returns-clause-track c = tracks_go_on

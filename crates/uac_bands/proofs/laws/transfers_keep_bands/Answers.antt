@@ -1,5 +1,0 @@
-use Rattle.uac_bands.proofs.BandTransfersBandLemmas.{transfers_keep_bands}
-use Rattle.uac_bands.proofs.laws.transfers_keep_bands.Goals as goal
-
-pub returns : goal.returns
-returns c = record { transfers = transfers_keep_bands }

@@ -1,5 +1,0 @@
-use Rattle.uac_believed.proofs.UnknownLemmas.{values_are_known_as_told}
-use Rattle.uac_believed.proofs.laws.values_are_known_as_told.Goals as goal
-
-pub returns : goal.returns
-returns c = values_are_known_as_told

@@ -1,5 +1,0 @@
-use Rattle.uac_believed.proofs.UnknownLostLemmas.{unknown_values_are_lost}
-use Rattle.uac_believed.proofs.laws.values_are_unknown_between.Goals as goal
-
-pub returns : goal.returns
-returns c = unknown_values_are_lost

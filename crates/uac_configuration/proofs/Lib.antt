@@ -1,3 +1,0 @@
--- What the proofs share, here and above.
-pub mod ConfigurationLemmas
-pub mod DescriptionLemmas

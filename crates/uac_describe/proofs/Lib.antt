@@ -1,3 +1,0 @@
-pub mod AnsweredLemmas
-pub mod OutcomeLemmas
-pub mod SourceParsingLemmas

@@ -1,5 +1,0 @@
-use Rattle.uac_describe.proofs.SourceParsingLemmas.{finished_by}
-use Rattle.uac_describe.proofs.parsing.end_of_descriptor.Goals as goal
-
-pub returns-in-Err : goal.returns-in-Err
-returns-in-Err c = finished_by _ _ c.in-Err.ensures.stop

@@ -1,0 +1,37 @@
+use Rattle.std.proofs.Common.{◌≡◌, ◌∙◌, ◌==◌, arith, ap, subst, sym, List}
+use Rattle.std.specs.List.{All}
+use Rattle.uac_graph.specs.Wiring.{frame_on}
+use Rattle.uac_flow.specs.FlowStreams.{after_taking}
+use Rattle.uac_device.specs.declared.device_stream.DeviceStream.{DeviceStream}
+use Rattle.uac_device.specs.InterfaceStreams.{changed_where}
+use Rattle.uac_device.specs.DeviceStreams.{AreDeviceStreams, DeviceStreamsStand, frame_given_by, met_by, ports}
+use Rattle.uac_device.proofs.DeviceStreamsLemmas.{still_apart}
+use Rattle.uac_device.proofs.ListChangeLemmas.{put_back}
+use Rattle.uac_device.proofs.device_streams.DeviceStreams.begin.Goals as goal
+
+pub invariant_of-self : goal.invariant_of-self
+invariant_of-self c =
+    subst AreDeviceStreams (sym (put_back c.self.inside.list.len c.begin.new.device_streams c.self.inside.list.items (omega arith)))
+    (record {
+      each = c.begin.ensures.sound;
+      apart = still_apart c.self.inside.list.items c.begin.new.device_streams (c.begin.ensures.ports ∙ ap ports c.deref_mut.ensures.value) c.self.invariant.apart;
+    })
+
+pub returns-clause-stands : goal.returns-clause-stands
+returns-clause-stands c on outs ins all keeps =
+    let same = sym (c.deref_mut.ensures.value ∙ c.self.view_is) in
+    subst (λ (ls : List DeviceStream). DeviceStreamsStand ls (changed_where on (λ interface. after_taking) outs) ins)
+    (sym (put_back c.self.inside.list.len c.begin.new.device_streams c.self.inside.list.items (omega arith)))
+    (c.begin.ensures.stands on outs ins (subst (λ (ls : List DeviceStream). All (λ p. on p.interface ≡ (p.domain == c.args.domain)) (ports ls)) same all) (subst (λ (ls : List DeviceStream). DeviceStreamsStand ls outs ins) same keeps))
+
+pub returns-clause-frames : goal.returns-clause-frames
+returns-clause-frames c outs ins keeps id =
+    let same = sym (c.deref_mut.ensures.value ∙ c.self.view_is) in
+    c.begin.ensures.frames outs ins (subst (λ (ls : List DeviceStream). DeviceStreamsStand ls outs ins) same keeps) id
+    ∙ ap (λ (ls : List DeviceStream). frame_given_by c.args.domain id outs (ports ls) (frame_on c.args.wires.now id)) (sym same)
+
+pub returns-clause-met : goal.returns-clause-met
+returns-clause-met c outs ins keeps =
+    let same = sym (c.deref_mut.ensures.value ∙ c.self.view_is) in
+    c.begin.ensures.met outs ins (subst (λ (ls : List DeviceStream). DeviceStreamsStand ls outs ins) same keeps)
+    ∙ ap (λ (ls : List DeviceStream). met_by c.args.domain outs ins (ports ls)) (sym same)

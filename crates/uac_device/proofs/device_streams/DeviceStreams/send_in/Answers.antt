@@ -1,0 +1,36 @@
+use Rattle.std.proofs.Common.{◌≡◌, Option, Some, refl, subst, sym}
+use Rattle.uac_flow.specs.FlowStreams.{InStream, after_sending_in}
+use Rattle.uac_device.specs.InterfaceStreams.{streams_changed_at}
+use Rattle.uac_device.specs.DeviceStreams.{DeviceStreamStands, device_stream_index}
+use Rattle.uac_device.proofs.DeviceStreamsLemmas.{are_at, asked_at, changed_here, changed_others, ports_at, written_at}
+use Rattle.uac_device.proofs.device_streams.DeviceStreams.send_in.Goals as goal
+
+pub invariant_of-self : goal.invariant_of-self
+invariant_of-self c =
+    are_at c.self.inside.list.items c.in-Some.index c.index_mut.result.now c.send_in.new.self c.self.invariant c.send_in.ensures.sound c.index_mut.ensures.value c.send_in.ensures.turns.port
+
+pub returns-in-Some-clause-stands : goal.returns-in-Some-clause-stands
+returns-in-Some-clause-stands c outs ins keeps =
+    let is : Some c.in-Some.index ≡ device_stream_index c.self.inside.list.items c.args.interface = cc (c.in-Some.ensures, c.into.ensures, c.self.view_is) in
+    written_at c.args.self.now c.self.inside.list.items outs outs ins (streams_changed_at c.args.interface after_sending_in ins) c.args.interface c.in-Some.index
+    c.index_mut.result.now c.send_in.new.self c.self.view_is c.self.invariant keeps is c.index_mut.ensures.value c.send_in.ensures.turns.port
+    (λ kept.
+    subst (λ (i : Option InStream). DeviceStreamStands c.send_in.new.self (outs c.args.interface) i) (sym (changed_here c.args.interface after_sending_in ins))
+    (c.send_in.ensures.turns.stands (outs c.args.interface) (ins c.args.interface) kept))
+    (λ k other. (refl, changed_others c.args.interface after_sending_in ins k other))
+
+pub returns-in-Some-clause-ports : goal.returns-in-Some-clause-ports
+returns-in-Some-clause-ports c =
+    ports_at c.args.self.now c.self.inside.list.items c.in-Some.index c.index_mut.result.now c.send_in.new.self c.self.view_is c.index_mut.ensures.value c.send_in.ensures.turns.port
+
+pub returns-in-Some-clause-packet : goal.returns-in-Some-clause-packet
+returns-in-Some-clause-packet c outs ins keeps =
+    let is : Some c.in-Some.index ≡ device_stream_index c.self.inside.list.items c.args.interface = cc (c.in-Some.ensures, c.into.ensures, c.self.view_is) in
+    c.send_in.ensures.packet (outs c.args.interface) (ins c.args.interface)
+    (asked_at c.args.self.now c.self.inside.list.items outs ins c.args.interface c.in-Some.index c.index_mut.result.now c.self.view_is keeps is c.index_mut.ensures.value)
+
+pub returns-in-Some-clause-frames : goal.returns-in-Some-clause-frames
+returns-in-Some-clause-frames c outs ins keeps =
+    let is : Some c.in-Some.index ≡ device_stream_index c.self.inside.list.items c.args.interface = cc (c.in-Some.ensures, c.into.ensures, c.self.view_is) in
+    c.send_in.ensures.frames (outs c.args.interface) (ins c.args.interface)
+    (asked_at c.args.self.now c.self.inside.list.items outs ins c.args.interface c.in-Some.index c.index_mut.result.now c.self.view_is keeps is c.index_mut.ensures.value)

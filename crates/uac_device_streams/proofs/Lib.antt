@@ -1,7 +1,0 @@
-pub mod ListChangeLemmas
-pub mod DeviceStreamsFlowLemmas
-pub mod DeviceStreamsLemmas
-pub mod DeviceStreamsChangeLemmas
-pub mod DeviceStreamsFrameLemmas
-pub mod DeviceStreamsRunningLemmas
-pub mod DeviceStreamsMetLemmas

@@ -1,3 +1,0 @@
--- Generated scripts.
--- What the laws say besides.
-pub mod Generated

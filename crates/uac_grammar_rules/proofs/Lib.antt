@@ -1,0 +1,21 @@
+-- The laws of the grammar.
+pub mod ProductionLemmas
+pub mod OrderStagesLemmas
+pub mod CuttingLemmas
+pub mod FaultLemmas
+pub mod Examples
+pub mod GrammarLemmas
+pub mod RulesLemmas
+pub mod ValuesLemmas
+pub mod SentenceListLemmas
+pub mod SentenceTotalLemmas
+pub mod SentenceTurnLemmas
+pub mod SentenceLemmas
+pub mod ProgressLemmas
+pub mod ProgressReachLemmas
+pub mod EarlierLemmas
+pub mod FirstFaultOrderLemmas
+pub mod FirstFaultTotalLemmas
+pub mod FirstFaultLemmas
+pub mod FirstFaultExamples
+pub mod SentenceWellFormedLemmas

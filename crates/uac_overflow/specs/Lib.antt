@@ -1,3 +1,0 @@
--- Rings that never overflow.
--- What the program's theorem says: to be read and believed.
-pub mod Recording

@@ -1,0 +1,163 @@
+-- Lines that are printed of a running device.
+use Rattle.std.proofs.Common.{◌≡◌, ℕ, ◌<◌, ◌==◌, ◌&&◌, Bool, true, false, cond, if◌then◌else◌, ℤ, List, [], ◌∷◌, ◌++◌, map, length, get_or, flat_map, unwrap_or, slice_get, Option, None, Some, Result, refl, sym, ap, subst, ◌∙◌, arith, inl, inr, not}
+use Rattle.std.specs.Prelude.{filter}
+use Rattle.std.specs.Option.{option_map}
+use Rattle.std.proofs.lemmas.Bool.{and_parts, and_from, cases_lt, cond-true, eq-eqb}
+use Rattle.std.specs.List.{position_or_len}
+use Rattle.std.proofs.lemmas.List.Sums.{prefix_len_passes}
+use Rattle.std.proofs.lemmas.List.{get_or_default, get_or-map, length-map}
+use Rattle.std.proofs.lemmas.Option.{slice_get-map, slice_get-get_or}
+use Rattle.uac_entities.specs.declared.entity.Entity.{Entity}
+use Rattle.uac_entities.specs.declared.stream.StreamInterface.{StreamInterface}
+use Rattle.uac_topology_rules.specs.Rules.{is_output}
+use Rattle.uac_topology_rules.specs.Table.{at, index_of, nothing}
+use Rattle.uac_topology.specs.Function.{FunctionFields}
+use Rattle.uac_topology.specs.Topology.{IsSoundFunction}
+use Rattle.uac_store.specs.declared.keys.Key.{Key}
+use Rattle.uac_store.specs.Rates.{rate_of}
+use Rattle.uac_alt.specs.AltSettings.{setting_of}
+use Rattle.uac_alt.specs.declared.settings.InterfaceSetting.{InterfaceSetting}
+use Rattle.uac_units.specs.Hearing.{Reading}
+use Rattle.uac_units.specs.declared.meter.MeterKind.{MeterKind}
+use Rattle.uac_graph.specs.Meaning.{entity}
+use Rattle.uac_graph.specs.Needs.{is_end}
+use Rattle.uac_graph.proofs.FitnessLemmas.{sound_graph}
+use Rattle.uac_edges.specs.Writing.{Writes}
+use Rattle.uac_ring.specs.declared.counts.StreamCounts.{StreamCounts}
+use Rattle.uac_transcript.specs.Transcript.{Said, says_domain, says_meter, says_played, spelling_of}
+use Rattle.uac_streaming.specs.StreamingWorld as streams
+use Rattle.uac_topology_rules.proofs.ListFindLemmas.{position-below}
+use Rattle.uac_device.specs.DeviceKept.{DeviceFields, DeviceStands}
+use Rattle.uac_device.specs.DeviceWorld.{Domain, DeviceWorld, is_jack, is_output_jack, level_of, played_at, target_of}
+use Rattle.uac_running.specs.declared.counts.TickCount.{TickCount}
+use Rattle.uac_running.specs.TickCounts.{tick_count_of}
+use Rattle.uac_running.specs.ReportLines.{domain_line, played_line, played_lines, says_stream, stream_line}
+
+-- a line for each of the items that a test keeps
+pub kept_only : {X : Type 0} (f : X → Said) (p : X → Bool) (xs : List X) → map f (filter p xs) ≡ flat_map (λ x. if p x then f x ∷ [] else []) xs
+kept_only f p [] = refl
+kept_only f p (x ∷ xs) = first (p x) ∙ ap (λ ys. (if p x then f x ∷ [] else []) ++ ys) (kept_only f p xs)
+  where
+    first : (b : Bool) → map f (cond b (x ∷ filter p xs) (filter p xs)) ≡ (if b then f x ∷ [] else []) ++ map f (filter p xs)
+    first true = refl
+    first false = refl
+
+-- ---- what output jacks played
+
+-- what is said of an entity
+abbrev pub of_entity : ℕ → DeviceWorld → Entity → List Said
+of_entity clock w e = if is_end clock e && is_jack e then played_line w e ∷ [] else []
+
+pub each-played : (clock : ℕ) (w : DeviceWorld) (entities : List Entity) → entities ≡ w.function.entities → flat_map (of_entity clock w) entities ≡ played_lines clock w
+unfolding played_lines
+each-played clock w entities e =
+    ap (flat_map (of_entity clock w)) e
+    ∙ sym (kept_only (played_line w) (λ (x : Entity). is_end clock x && is_jack x) w.function.entities)
+
+-- in a sound function an entity's id leads to it
+pub entity_of-own : (function : FunctionFields) (items : List Entity) (index : ℕ) (e : Entity) → IsSoundFunction function → items ≡ function.entities → index < length items
+    → e ≡ get_or items index e → entity function.entities e.id ≡ e
+unfolding entity at
+entity_of-own function items index e sound same within is =
+    let graph = sound_graph function sound in
+    let below : index < length function.entities = subst (λ (xs : List Entity). index < length xs) same within in
+    let here : at function.entities index ≡ e =
+    get_or_default function.entities index nothing e below ∙ sym (is ∙ ap (λ (xs : List Entity). get_or xs index e) same) in
+    ap (at function.entities) (ap (λ (x : Entity). index_of function.entities x.id) (sym here) ∙ graph.distinct index below) ∙ here
+
+-- an output jack of a domain has a frame
+played_here : (clock : ℕ) (w : DeviceWorld) (e : Entity) → entity w.function.entities e.id ≡ e → true ≡ (is_end clock e && is_jack e) → played_at w e.id ≡ Some (w.played e.id)
+unfolding played_at
+played_here clock w e own ends =
+    let parts = and_parts (is_end clock e) (is_jack e) (sym ends) in
+    let output = and_parts (is_output e.kind) (e.clock == clock) parts.0 in
+    ap (λ (x : Entity). if is_output_jack x then Some (w.played e.id) else None) own ∙ cond-true _ _ _ (and_from _ _ output.0 parts.1)
+
+own_of : (device : DeviceFields) (w : DeviceWorld) (e : Entity) → DeviceStands device w → entity device.function.entities e.id ≡ e → entity w.function.entities e.id ≡ e
+own_of device w e stands own = ap (λ f. entity f.entities e.id) (sym stands.function) ∙ own
+
+-- the frame of an output jack is the one that is said of it
+pub said-played : (clock : ℕ) (w : DeviceWorld) (device : DeviceFields) (e : Entity) (samples : List ℤ) → DeviceStands device w → entity device.function.entities e.id ≡ e
+    → true ≡ (is_end clock e && is_jack e) → Some samples ≡ played_at w e.id → says_played e.id samples ∷ [] ≡ of_entity clock w e
+said-played clock w device e samples stands own ends played =
+    let here = played_here clock w e (own_of device w e stands own) ends in
+    let same : samples ≡ w.played e.id = cc in
+    ap (λ (s : List ℤ). says_played e.id s ∷ []) same ∙ sym (cond-true _ _ _ (sym ends))
+
+pub none_played : (clock : ℕ) (w : DeviceWorld) (device : DeviceFields) (e : Entity) → DeviceStands device w → entity device.function.entities e.id ≡ e
+    → true ≡ (is_end clock e && is_jack e) → None ≡ played_at w e.id → ⊥
+none_played clock w device e stands own ends played = let here = played_here clock w e (own_of device w e stands own) ends in cc
+
+-- ---- the report
+
+-- the line of the domain at an index, from its count
+pub count_at : (device : DeviceFields) (w : DeviceWorld) (counts : List TickCount) (i : ℕ) (d : Domain) (e c : TickCount) (rate : Option ℕ) → DeviceStands device w
+    → counts ≡ map tick_count_of w.domains → i < length w.domains → c ≡ get_or counts i e → rate ≡ rate_of device.function.entities device.controls c.domain
+    → says_domain c.domain rate c.ticks ≡ domain_line w (get_or w.domains i d)
+unfolding domain_line
+count_at device w counts i d e c rate stands same h is is_rate =
+    let here : c ≡ tick_count_of (get_or w.domains i d) = is ∙ ap (λ (xs : List TickCount). get_or xs i e) same ∙ get_or-map tick_count_of w.domains i d e h in
+    ap (λ (r : Option ℕ). says_domain c.domain r c.ticks)
+    (is_rate
+    ∙ ap (λ (f : List Entity). rate_of f device.controls c.domain) (ap (λ f. f.entities) stands.function)
+    ∙ ap (λ (controls : List (Key × ℤ)). rate_of w.function.entities controls c.domain) stands.controls)
+    ∙ ap (λ (t : TickCount). says_domain t.domain (rate_of w.function.entities w.controls t.domain) t.ticks) here
+
+-- as many counts as domains
+pub below_domains : (w : DeviceWorld) (counts : List TickCount) (i : ℕ) → counts ≡ map tick_count_of w.domains → i < length counts → i < length w.domains
+below_domains w counts i same h = omega (arith, ap length same, length-map w.domains tick_count_of)
+
+-- the line of an interface's streams
+pub stream-line : (w : DeviceWorld) (met : ℕ → StreamCounts) (settings : List InterfaceSetting) (s : StreamInterface) (setting level : ℕ) (target : Option ℕ) (counts : StreamCounts)
+    → settings ≡ w.settings → setting ≡ unwrap_or (setting_of settings s.number) 0 → level ≡ level_of w s.number → target ≡ target_of w s.number
+    → counts ≡ met s.number → says_stream s.out s.number setting level target counts ≡ stream_line w met s
+unfolding stream_line
+stream-line w met settings s setting level target counts same is_setting is_level is_target is_met =
+    ap (λ (n : ℕ). says_stream s.out s.number n level target counts) (is_setting ∙ ap (λ (xs : List InterfaceSetting). unwrap_or (setting_of xs s.number) 0) same)
+    ∙ ap (λ (n : ℕ). says_stream s.out s.number (unwrap_or (setting_of w.settings s.number) 0) n target counts) is_level
+    ∙ ap (λ (t : Option ℕ). says_stream s.out s.number (unwrap_or (setting_of w.settings s.number) 0) (level_of w s.number) t counts) is_target
+    ∙ ap (says_stream s.out s.number (unwrap_or (setting_of w.settings s.number) 0) (level_of w s.number) (target_of w s.number)) is_met
+
+-- the same of a stream to the device, and of one from it
+pub stream-writes : {T E : Type 0} (old new : Option (List ℕ)) (r : Result T E) (w : DeviceWorld) (met : ℕ → StreamCounts) (settings : List InterfaceSetting) (s : StreamInterface)
+    (out : Bool) (setting level : ℕ) (target : Option ℕ) (counts : StreamCounts)
+    → out ≡ s.out → settings ≡ w.settings → setting ≡ unwrap_or (setting_of settings s.number) 0 → level ≡ level_of w s.number → target ≡ target_of w s.number
+    → counts ≡ met s.number → Writes old new r (spelling_of (says_stream out s.number setting level target counts)) → Writes old new r (spelling_of (stream_line w met s))
+stream-writes old new r w met settings s out setting level target counts is_out same is_setting is_level is_target is_met writes =
+    subst (λ (said : Said). Writes old new r (spelling_of said))
+    (ap (λ (b : Bool). says_stream b s.number setting level target counts) is_out
+    ∙ stream-line w met settings s setting level target counts same is_setting is_level is_target is_met)
+    writes
+
+-- the reading at an index, from its kind and its value
+pub meter_at : (shown : List Reading) (i : ℕ) (d : Reading) (k : MeterKind) (v : ℕ) → i < length shown
+    → slice_get (map (λ r. r.kind) shown) i ≡ Some k → slice_get (map (λ r. r.value) shown) i ≡ Some v → says_meter (record { kind = k; value = v }) ≡ says_meter (get_or shown i d)
+meter_at shown i d k v h kind value =
+    let there = slice_get-get_or shown i d h in
+    let a : Some (get_or shown i d).kind ≡ Some k = sym (slice_get-map (λ (r : Reading). r.kind) shown i ∙ ap (option_map (λ (r : Reading). r.kind)) there) ∙ kind in
+    let b : Some (get_or shown i d).value ≡ Some v = sym (slice_get-map (λ (r : Reading). r.value) shown i ∙ ap (option_map (λ (r : Reading). r.value)) there) ∙ value in
+    let same_kind : k ≡ (get_or shown i d).kind = cc in
+    let same_value : v ≡ (get_or shown i d).value = cc in
+    ap (λ (x : MeterKind). says_meter (record { kind = x; value = v })) same_kind
+    ∙ ap (λ (n : ℕ). says_meter (record { kind = (get_or shown i d).kind; value = n })) same_value
+
+-- an interface of these is found by its number
+pub index_there : (f : FunctionFields) (items : List StreamInterface) (i : ℕ) (s d : StreamInterface) → items ≡ f.streams → i < length items → s ≡ get_or items i d
+    → (index : ℕ) × (streams.stream_index f s.number ≡ Some index)
+index_there f items i s d same below is =
+    let xs = f.streams in
+    let p : StreamInterface → Bool = λ x. x.number == s.number in
+    let within : i < length xs = subst (λ (ys : List StreamInterface). i < length ys) same below in
+    let here : get_or xs i d ≡ s = ap (λ (ys : List StreamInterface). get_or ys i d) (sym same) ∙ sym is in
+    let passes : p (get_or xs i d) ≡ true = ap p here ∙ eq-eqb s.number s.number refl in
+    elim (cases_lt (position_or_len p xs) (length xs)) [
+      | inl found ↦ (position_or_len p xs, position-below p xs found)
+      | inr past ↦
+          (let before : i < position_or_len p xs = omega arith in
+          let fails = prefix_len_passes (λ x. not (p x)) xs i d before in
+          absurd (true_not (p (get_or xs i d)) passes fails))
+    ]
+  where
+    true_not : (b : Bool) → b ≡ true → not b ≡ true → ⊥
+    true_not true passes fails = cc
+    true_not false passes fails = cc

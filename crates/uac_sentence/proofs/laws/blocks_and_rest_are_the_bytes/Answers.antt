@@ -1,5 +1,0 @@
-use Rattle.uac_sentence.proofs.CuttingLemmas.{chop_is_cut}
-use Rattle.uac_sentence.proofs.laws.blocks_and_rest_are_the_bytes.Goals as goal
-
-pub returns : goal.returns
-returns c = chop_is_cut c.args.bytes.now

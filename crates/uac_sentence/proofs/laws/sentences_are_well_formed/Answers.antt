@@ -1,5 +1,0 @@
-use Rattle.uac_sentence.proofs.SentenceWellFormedLemmas.{sentence_is_well_formed}
-use Rattle.uac_sentence.proofs.laws.sentences_are_well_formed.Goals as goal
-
-pub returns : goal.returns
-returns c = sentence_is_well_formed

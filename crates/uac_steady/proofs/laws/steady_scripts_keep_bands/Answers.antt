@@ -1,5 +1,0 @@
-use Rattle.uac_steady.proofs.ScriptsLemmas.{steady_scripts_keep_bands}
-use Rattle.uac_steady.proofs.laws.steady_scripts_keep_bands.Goals as goal
-
-pub returns : goal.returns
-returns c = steady_scripts_keep_bands

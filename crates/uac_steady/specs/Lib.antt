@@ -1,3 +1,0 @@
--- Steady scripts.
--- What the program's theorem says: to be read and believed.
-pub mod Scripts

@@ -1,5 +1,0 @@
-use Rattle.uac_walk.proofs.CyclesLemmas as cycles
-use Rattle.uac_walk.proofs.laws.long_walks_come_round.Goals as goal
-
-pub returns : goal.returns
-returns c = cycles.long_walks_come_round

@@ -1,6 +1,0 @@
-use Rattle.std.proofs.Common.{take}
-use Rattle.uac_walk.specs.NodeReleasing.{Releases}
-use Rattle.uac_walk.proofs.order.release.Given as goal
-
-abbrev pub invariant-loop-node : goal.invariant-loop-node
-invariant-loop-node l = Releases (take l.node-index l.namers) l.initial.waiting.items l.initial.order.items l.waiting.items l.order.items

@@ -1,5 +1,0 @@
-use Rattle.uac_walk.specs.NodeReleasing.{IsReleased}
-use Rattle.uac_walk.proofs.order.sources_first.Given as goal
-
-abbrev pub invariant-loop-done : goal.invariant-loop-done
-invariant-loop-done l = IsReleased l.graph l.done l.waiting.items l.order.items
