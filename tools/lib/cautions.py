@@ -270,7 +270,7 @@ def companions(blocks):
     for block in blocks:
         if block.data[1] == 0x30:
             yield Finding("super-speed", f"a companion of super speed (type 0x30) stands at {block.place}: this is what the device tells "
-                          "at super speed, and it is judged as one of high speed", "give what the device tells at high speed", block,
+                          "at super speed, and the rules of high speed judge it", "give what the device tells at high speed", block,
                           {"type": None})
 
 
@@ -283,8 +283,8 @@ def other_speed(speed):
     if name is None:
         return None
     more = ", where packets and reports come every millisecond and a report has 3 bytes" if name == "full speed" else ""
-    return Finding("speed", f"the device runs at {name} ({speed} Mbit/s in the file 'speed' beside){more}: it is judged as one of high "
-                   "speed, so intervals, packet sizes and rates below aren't its own", "plug it in at high speed for a verdict of its own")
+    return Finding("speed", f"the device runs at {name} ({speed} Mbit/s in the file 'speed' beside){more}: the rules of high speed judge "
+                   "it, so intervals, packet sizes and rates below aren't its own", "plug it in at high speed for a verdict of its own")
 
 
 def cautions(blocks, speed=None):

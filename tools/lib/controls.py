@@ -106,8 +106,9 @@ def room_of(endpoint):
 
 
 def service_of(endpoint):
-    """How many microframes pass from one packet, or report, to the next."""
-    return 1 << (endpoint["interval"] - 1)
+    """How many microframes pass from one packet, or report, to the next; an interval that isn't 1 to 16, which is refused, counts as the
+    nearest."""
+    return 1 << min(max(endpoint["interval"], 1), 16) - 1
 
 
 def why_format(setting, channels):

@@ -28,6 +28,8 @@ LAYOUTS = {
 }
 CONTROL_SUBTYPES = {1: "header", 2: "input_terminal", 3: "output_terminal", 4: "mixer", 5: "selector", 6: "feature", 7: "effect",
                     10: "clock_source", 11: "clock_selector", 12: "clock_multiplier"}
+# The units that no layout here reads, by their subtypes; each has its id where an entity has it.
+UNREAD_UNITS = {8: "processing unit", 9: "extension unit", 13: "rate converter unit"}
 ENTITY_KINDS = [kind for kind in CONTROL_SUBTYPES.values() if kind != "header"]
 FIXED_LENGTHS = {"configuration": 9, "association": 8, "interface": 9, "endpoint": 7, "header": 9, "input_terminal": 17,
                  "output_terminal": 12, "clock_source": 8, "clock_multiplier": 7, "general": 16, "type_one": 6, "class_endpoint": 8}
@@ -182,8 +184,13 @@ def is_streaming(block):
     return (block["class"], block["subclass"], block["protocol"]) == (1, 2, 0x20)
 
 
+def is_whole(block):
+    """Whether a block has all fields of its layout: one that is cut short lacks some."""
+    return len(block.fields) == len(LAYOUTS[block.kind])
+
+
 def settings_of(blocks):
-    """Each setting of a streaming interface: its number, its setting, and its blocks by kind."""
+    """Each setting of a streaming interface: its number, its setting, and its whole blocks by kind."""
     found, setting = [], None
     for block in blocks:
         if block.kind in ("interface", "association", "configuration"):
@@ -191,9 +198,11 @@ def settings_of(blocks):
             if block.kind == "interface" and is_streaming(block):
                 setting = {"number": block["number"], "setting": block["setting"], "endpoint": []}
                 found.append(setting)
-        elif setting is not None and block.kind == "endpoint":
+        elif setting is None or block.kind not in ("endpoint", "general", "type_one") or not is_whole(block):
+            continue
+        elif block.kind == "endpoint":
             setting["endpoint"].append(block)
-        elif setting is not None and block.kind in ("general", "type_one"):
+        else:
             setting.setdefault(block.kind, block)
     return found
 
@@ -201,3 +210,14 @@ def settings_of(blocks):
 def entities_of(blocks):
     """The entities by their ids."""
     return {block["id"]: block for block in blocks if block.kind in ENTITY_KINDS}
+
+
+def unread_units_of(blocks):
+    """The units of control interfaces that no layout reads, by their ids, in words."""
+    found, is_inside = {}, False
+    for block in blocks:
+        if block.kind in ("interface", "association", "configuration"):
+            is_inside = block.kind == "interface" and (block["class"], block["subclass"], block["protocol"]) == (1, 1, 0x20)
+        elif is_inside and block.kind is None and block.data[1] == 0x24 and len(block.data) > 3:
+            found[block.data[3]] = f"{UNREAD_UNITS.get(block.data[2], f'block of subtype {block.data[2]} with id')} {block.data[3]}"
+    return found

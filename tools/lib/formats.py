@@ -18,7 +18,7 @@ class Format:
         self.data, self.period, self.room = ends[0]["address"], service_of(ends[0]), ends[0]["max_packet"] & 0x7FF
         self.room *= 1 + (ends[0]["max_packet"] >> 11 & 3)
         self.feedback = ends[1]["address"] if len(ends) > 1 else None
-        self.report_period = service_of(ends[1]) if len(ends) > 1 else 0
+        self.report_period, self.report_room = (service_of(ends[1]), ends[1]["max_packet"] & 0x7FF) if len(ends) > 1 else (0, 0)
 
     def in_words(self):
         channels = f"{self.channels} channel" + ("" if self.channels == 1 else "s")

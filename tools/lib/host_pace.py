@@ -1,8 +1,9 @@
 """Whether a host's packets follow the reports that it was given: the sum of their frames beside the sum of the value in force.
 
-A host has some packets handed in at any time, so a report can count for those alone that it hands in after it. It hands in again what comes
-back, in order; so the most packets that it was seen to have handed in are taken for their number. Where it had none left for a while, it may
-have paused or only been late: the sum is kept for both, begun anew after a pause, and what agrees with one of them follows the reports.
+A host has some packets handed in at any time, so a report can count for those alone that it hands in after it. It hands in again what
+comes back, in order; so the most packets that it was seen to have handed in are taken for their number. Where it had none left for a while,
+it may have paused or only been late: the sum is kept for both, begun anew after a pause, and what agrees with one of them follows the
+reports.
 The sums are kept as the packets come, however long a stream is; tools/judge looks at the record of the bus, whole, and finds the number by
 itself."""
 import collections
@@ -21,8 +22,8 @@ class Sum:
         self.reports.append((packets + self.ahead, value))
 
     def pause(self, frames, period):
-        """Nothing is handed in: what comes next is handed in after all reports, and with a remainder that nobody knows. How many packets are
-        handed in then is only seen after the first reports, which count for the more the longer a packet is."""
+        """Nothing is handed in: what comes next is handed in after all reports, and with a remainder that nobody knows. How many packets
+        are handed in then is only seen after the first reports, which count for the more the longer a packet is."""
         if self.reports:
             self.value = self.reports[-1][1]
             self.reports.clear()

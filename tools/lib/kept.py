@@ -9,14 +9,17 @@ LETTERS = "dgchbatjkmvq"
 # A comment that tells a device's answer: of tools/script_of, and of a script whose comments are a transcript.
 SAID = re.compile(r"# (?:said|c) (.*)")
 ASKED = "more than was asked for"
+# Where a host waited so long, and nothing came.
+SILENT = re.compile(r"nothing within (\d+) seconds?")
 
 
 class Said:
-    """What a device answered: bytes, done, a stall, or nothing, where the transfer broke."""
+    """What a device answered: bytes, done, a stall, or nothing, where the transfer broke, or none came in `seconds` (else None)."""
 
     def __init__(self, text):
-        self.text, words = text, text.split(" ")
+        self.text, words, silent = text, text.split(" "), SILENT.fullmatch(text)
         self.kind = words[0] if words[0] in ("bytes", "done", "stall") else "overflow" if text.startswith(ASKED) else "broken"
+        self.seconds = None if silent is None else int(silent[1])
         self.data = b""
         if self.kind == "bytes":
             self.data = bytes.fromhex("" if words[1] == "-" else words[1])

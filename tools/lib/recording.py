@@ -2,6 +2,7 @@
 
 Without a folder nothing is kept. Where it can't be written, that is said once, and the visit goes on without it."""
 import itertools, os, subprocess, threading
+from differences import counted
 from program import program_path
 from tool import Refused
 
@@ -140,5 +141,5 @@ def check(folder):
         why, lines = replay(path)
         differ += why is not None
         print(f"{os.path.relpath(path, folder)}: " + (why or f"the same, {lines} lines"))
-    print(f"{len(paths)} runs, {differ} differ")
+    print(f"{counted(len(paths), 'run')}, {differ} differ")
     return 1 if differ else 0

@@ -5,6 +5,8 @@ from standard import OF_INTERFACES, standard_name
 
 NAMES = {(0xA1, 1): "GET CUR", (0xA1, 2): "GET RANGE", (0x21, 1): "SET CUR", (0x80, 6): "GET_DESCRIPTOR", (0x81, 10): "GET_INTERFACE",
          (0x01, 11): "SET_INTERFACE"}
+# The requests of the class: CUR, RANGE and MEM (Audio Class 2.0, A.14).
+CODES = (1, 2, 3)
 # The value of GET_DESCRIPTOR for the first configuration.
 CONFIGURATION = 0x0200
 
@@ -32,7 +34,12 @@ class Request:
         """Whether a transfer speaks to the audio function by the requests that are judged here."""
         if self.name == "GET_DESCRIPTOR":
             return self.value == CONFIGURATION
-        return self.setup[:2] in {bytes(pair) for pair in NAMES} and self.setup[4] not in self.others
+        return (self.is_unknown or self.setup[:2] in {bytes(pair) for pair in NAMES}) and self.setup[4] not in self.others
+
+    @property
+    def is_unknown(self):
+        """Whether it is a request of the class, to an interface, that no table of the standard has."""
+        return self.setup[0] in (0x21, 0xA1) and self.setup[1] not in CODES
 
     @property
     def of_interface(self):

@@ -175,7 +175,7 @@ WARNED = (
     ("fixed-writable", "a fixed clock whose frequency a host may set", WARNING, "Audio Class 2.0, 4.7.2.1"),
     ("speed", "a device of another speed than high speed", WARNING, "the file speed beside it"),
     ("cannot-run", "a stream that no rate can run here", LIMIT, "docs/STREAMS.md has what can run"),
-    ("super-speed", "a companion block of super speed", LIMIT, "judged as at high speed"),
+    ("super-speed", "a companion block of super speed", LIMIT, "judged by the rules of high speed"),
 )
 
 PAGES = {"DESCRIPTORS.md": "G", "TOPOLOGY.md": "U"}

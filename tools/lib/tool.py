@@ -1,10 +1,12 @@
 """What the tools share: their words, input and output, and the program that they ask. The rules' sentences stand in rules.py."""
-import functools, glob, os, subprocess, sys
+import contextlib, functools, glob, os, subprocess, sys
 from rules import RULES
 
 TOP = os.path.dirname(os.path.dirname(os.path.dirname(os.path.abspath(__file__))))
 # The program that is asked; the environment may name another, as a build that stands elsewhere.
 PROGRAM = os.environ.get("UAC_CLI") or os.path.join(TOP, "uac_cli")
+# The status of a command that Ctrl-C ended, as shells have it.
+BY_CTRL_C = 130
 
 
 class Refused(Exception):
@@ -27,6 +29,13 @@ def options_of(words, flags=(), values=()):
         else:
             files.append(word)
     return files, found, given
+
+
+def some_files(files, what):
+    """The files, of which one is wanted at least."""
+    if not files:
+        raise Refused(f"a {what} is wanted; --help says how")
+    return files
 
 
 def one_file(files, what):
@@ -66,17 +75,28 @@ def write_output(name, data, force):
         raise Refused(f"{name} can't be written ({why.strerror})")
 
 
+@functools.lru_cache(None)
+def newest_source(crates="*"):
+    """When a source of this crate, or of one of these, was changed last."""
+    times = [0]
+    for part in ("src", "specs", "proofs"):
+        for top, folders, files in (found for crate in glob.glob(os.path.join(TOP, "crates", crates, part)) for found in os.walk(crate)):
+            times += [os.lstat(os.path.join(top, name)).st_mtime_ns for name in ["."] + folders + files]
+    return max(times)
+
+
+def sources_since(since):
+    """Whether some source of the crates is newer than this time."""
+    return max(os.lstat(os.path.join(TOP, "crates.txt")).st_mtime_ns, newest_source()) > since
+
+
 def is_built():
     """Whether the program is built and no source is newer, as ./uac_cli judges it."""
     folder = os.path.join(TOP, "crates/uac_cli/out")
     stamp = os.path.join(folder, "launcher.stamp")
     if not os.access(os.path.join(folder, "uac_cli"), os.X_OK) or not os.path.exists(stamp):
         return False
-    since, sources = os.stat(stamp).st_mtime_ns, [os.path.join(TOP, "crates.txt")]
-    for part in ("src", "specs", "proofs"):
-        for top, folders, files in (found for crate in glob.glob(os.path.join(TOP, "crates/*", part)) for found in os.walk(crate)):
-            sources += [os.path.join(top, name) for name in ["."] + folders + files]
-    return all(os.lstat(path).st_mtime_ns <= since for path in sources)
+    return not sources_since(os.stat(stamp).st_mtime_ns)
 
 
 @functools.lru_cache(None)
@@ -91,8 +111,19 @@ def program():
     return PROGRAM
 
 
+def need_answers():
+    """Refuses where neither the library nor the program is there to ask: for those who ask often."""
+    from library import library
+    if library() is None:
+        program()
+
+
 def ask(command, data):
-    """What the program answers: its lines and its status."""
+    """What the program answers, or the library where that is built: its lines and its status."""
+    from library import told
+    answer = told(command, data)
+    if answer is not None:
+        return answer[0].splitlines(), answer[1]
     try:
         done = subprocess.run([program(), command], input=data, stdout=subprocess.PIPE)
     except OSError as why:
@@ -118,6 +149,13 @@ def rules():
     return RULES
 
 
+def tell_trouble(why):
+    """One sentence on standard error, behind the tool's name and what was printed before."""
+    with contextlib.suppress(BrokenPipeError):
+        sys.stdout.flush()
+    print(f"{os.path.basename(sys.argv[0])}: {why}", file=sys.stderr, flush=True)
+
+
 def main_of(main, doc, trouble=1):
     """Runs a tool: --help, and refusals as one sentence on standard error with the status that says so."""
     try:
@@ -129,8 +167,11 @@ def main_of(main, doc, trouble=1):
         sys.stdout.flush()
         return status
     except Refused as why:
-        print(f"{os.path.basename(sys.argv[0])}: {why}", file=sys.stderr)
+        tell_trouble(why)
         return trouble
+    except KeyboardInterrupt:
+        tell_trouble("ended by Ctrl-C")
+        return BY_CTRL_C
     except BrokenPipeError:
         os.dup2(os.open(os.devnull, os.O_WRONLY), 1)
         return 0

@@ -205,7 +205,10 @@ def unlinked(number, was_there):
 
 # ---- a host
 
-Answer = collections.namedtuple("Answer", "number address status data packets")
+# `passed` is how many bytes went over, as the server tells it.
+Answer = collections.namedtuple("Answer", "number address status data packets passed", defaults=(0,))
+# A transfer of isochronous packets begins as soon as it can.
+AS_SOON = 2
 
 
 class Host:
@@ -215,7 +218,7 @@ class Host:
         try:
             self.wire = Wire(socket.create_connection((address, port), seconds), seconds)
         except OSError as why:
-            raise ProtocolError(f"nobody answers at {address}:{port} ({why.strerror or why})")
+            raise ProtocolError(f"nobody answers at {address}:{port} ({why.strerror or why})") from why
         self.number, self.waiting, self.kept, self.record = 0, {}, collections.deque(), None
 
     def begin(self, code, body=b""):
@@ -238,8 +241,9 @@ class Host:
         self.record = Record.read(self.wire, False)
         return self.record
 
-    def submit(self, address, data=b"", lengths=None, setup=bytes(8), room=None):
-        """Hands in a transfer, an isochronous one with the lengths of its packets; its number."""
+    def submit(self, address, data=b"", lengths=None, setup=bytes(8), room=None, interval=0):
+        """Hands in a transfer, an isochronous one with the lengths of its packets; its number. A server with a real bus behind it asks for
+        the interval of isochronous and interrupt transfers, in microframes."""
         self.number += 1
         is_in, count, packets, place = bool(address & 0x80), NO_PACKETS, b"", 0
         if lengths is not None:
@@ -249,8 +253,8 @@ class Host:
                 place += length
         length = room if room is not None else place if lengths is not None else len(data)
         self.waiting[self.number] = address
-        head = struct.pack(">IIIIIIiiIi8s", SUBMIT, self.number, self.record.bus << 16 | self.record.device, is_in, address & 15, 0,
-                           length, 0, count, 0, setup)
+        head = struct.pack(">IIIIIIiiIi8s", SUBMIT, self.number, self.record.bus << 16 | self.record.device, is_in, address & 15,
+                           AS_SOON if lengths is not None else 0, length, 0, count, interval, setup)
         self.wire.send(head + (b"" if is_in else data) + packets)
         return self.number
 
@@ -273,7 +277,7 @@ class Host:
         packets = []
         if count > 0 and address & 15:
             packets = [(size, told, state) for _, size, told, state in struct.iter_unpack(">IIIi", self.wire.take(16 * count))]
-        return Answer(number, address, status, data, packets)
+        return Answer(number, address, status, data, packets, max(actual, 0))
 
     def wait(self):
         """The next answer, in the order in which they came."""

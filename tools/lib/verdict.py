@@ -12,6 +12,9 @@ from told import CLOCKS, SILENCE, Told, is_in, subranges
 REQUESTS, LAYOUTS, SELECTORS = "Audio Class 2.0, 5.2", "Audio Class 2.0, 5.2.2", "Audio Class 2.0, A.17"
 VOLUMES = "Audio Class 2.0, 5.2.5.7.2"
 STANDARD_REQUESTS, DESCRIPTORS, SETTINGS = "USB 2.0, 9.4", "USB 2.0, 9.4.3", "USB 2.0, 9.4.10"
+CODES, TIMES = "Audio Class 2.0, A.14", "USB 2.0, 9.2.6.1"
+# A device has so many seconds for any request.
+LONGEST_REQUEST = 5
 # Why a stall is wanted, by the program's rule.
 ABSENT = {"Q2": "The configuration has no interface {interface}", "Q3": "No entity has the id {entity}",
           "Q4": "The standard gives it no control {selector}", "Q5": "The descriptor declares the control absent: its two bits are 00",
@@ -32,14 +35,16 @@ class Verdict:
         self.blocks = cut(descriptor)[0]
         self.by_id, self.told = entities_of(self.blocks), Told()
         self.compared = self.passed_over = 0
+        # How often it fell silent, whether it still is, and what was asked before that.
+        self.silences, self.is_silent, self.before = 0, False, "no request"
         self.counts = {}
         for setting in settings_of(self.blocks):
             self.counts[setting["number"]] = max(self.counts.get(setting["number"], 0), setting["setting"])
 
     # ---- what is told
 
-    def add(self, kind, rule, kept, request, value, wanted, text, said=""):
-        key = request.name, request.target
+    def add(self, kind, rule, kept, request, value, wanted, text, said="", key=None):
+        key = (request.name, request.target) if key is None else key
         self.differences.add(Difference(kind, rule, kept.line, request.in_words(), value, wanted, text, said, key=key))
 
     def wrong(self, rule, kept, request, wanted, text, said=REQUESTS, kind=STANDARD):
@@ -74,12 +79,22 @@ class Verdict:
             self.broken(kept, request)
         else:
             self.compared += 1
+            self.is_silent, self.before = False, f"{request.in_words()} in line {kept.line}"
+            self.answered(kept, request)
+
+    def answered(self, kept, request):
+        """A transfer that was answered or stalled."""
+        if request.is_unknown:
+            self.no_such_request(kept, request)
+        else:
             {"GET CUR": self.get_cur, "GET RANGE": self.get_range, "SET CUR": self.set_cur, "GET_DESCRIPTOR": self.get_descriptor,
              "GET_INTERFACE": self.get_interface, "SET_INTERFACE": self.set_interface}[request.name](kept, request)
 
     def broken(self, kept, request):
         """A transfer whose answer isn't known: the device may have acted or not."""
-        if kept.said is not None:
+        if kept.said is not None and kept.said.seconds is not None:
+            self.silent(kept, request)
+        elif kept.said is not None:
             self.add(WARNING, "broken", kept, request, kept.said.text, "an answer or a stall",
                      "The transfer broke, and what it would have set isn't known")
         if request.name == "SET CUR":
@@ -87,6 +102,23 @@ class Verdict:
         elif request.name == "SET_INTERFACE":
             self.told.settings.pop(request.index, None)
             self.streams.end(request.index)
+
+    def silent(self, kept, request):
+        """Nothing came: told once until the device answers again."""
+        self.silences += not self.is_silent
+        self.is_silent, key = True, ("silence", self.silences)
+        told, last = (kept, request, kept.said.text, "an answer or a stall"), f"the last that it answered was {self.before}"
+        if kept.said.seconds >= LONGEST_REQUEST:
+            self.add(STANDARD, "no-answer", *told, f"A device has {LONGEST_REQUEST} seconds for any request; {last}", TIMES, key)
+        else:
+            self.add(WARNING, "no-answer", *told, f"The host waited no longer, where a device has {LONGEST_REQUEST} seconds; {last}", TIMES,
+                     key)
+
+    def no_such_request(self, kept, request):
+        """A request that no table has is stalled, by the program too."""
+        self.ask(request)
+        if kept.said.kind != "stall":
+            self.wrong("Q1", kept, request, "stall", f"The class has no request {request.setup[1]}", CODES)
 
     def ask(self, request):
         """What the program answers, None where it doesn't take the descriptor."""
@@ -280,10 +312,13 @@ class Verdict:
         elif rule == "Q9":
             self.own("Q9", kept, request, "stall", "The profile has no such value")
             self.alone("value", kept, request, "the program can't hold this value")
-        is_running = request.entity is not None and request.entity.kind in CLOCKS and self.told.is_running()
-        if is_running and self.told.values.get(key) not in (None, kept.sent):
+        if self.is_running_clock(request) and self.told.values.get(key) not in (None, kept.sent):
             self.own("Q10", kept, request, "stall", "In the profile no clock is set while a stream runs")
         self.was_set(request, key, None if rule == "Q8" else self.value_set(request, key))
+
+    def is_running_clock(self, request):
+        """Whether a clock is spoken of while a stream runs: between transfers the program has none that does."""
+        return request.entity is not None and request.entity.kind in CLOCKS and self.told.is_running()
 
     def value_set(self, request, key):
         """The value that holds after a SET: what was sent, or unknown where it lies outside the device's own range, or off its steps."""
@@ -312,7 +347,7 @@ class Verdict:
             text = "A host may set the control to each value of its range" if is_own else "A host may set the control on and off"
             (self.contradicts if is_own else self.wrong)("stall", kept, request, "done", text, LAYOUTS)
             self.told.hold(key, None)
-        elif rule is None and self.proved is not None:
+        elif rule is None and self.proved is not None and not self.is_running_clock(request):
             self.own("stall", kept, request, "done", "The profile has this value")
 
     def is_own_value(self, request, key):
