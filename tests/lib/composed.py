@@ -1,7 +1,7 @@
 """Tests of tools/compose that a case can't be; tests/tools runs them."""
 import os, re, subprocess, sys
 from needs import PROGRAM, TOP, as_lines
-from tooling import example, need, one_sentence, same, tool
+from tooling import example, one_sentence, same, tool
 
 HEADSET = "descriptor examples/headset.bin\n"
 
@@ -128,7 +128,6 @@ def test_what_people_write(_):
 
 def test_levels_alone(_):
     """Six frames come and none is taken while the stream primes; reports say the nominal value, and a lost one is said to be lost."""
-    need("streams")
     text = HEADSET + "detail 0\nstart 1\nwait 7 microframes\nlose report 1 and out 1 for 1\nwait 1 microframe\n"
     done = compose(text, "--only", "levels")
     rows = ["microframe        ms  stream  level  target  host's value  what happened"]
@@ -144,7 +143,6 @@ def test_levels_alone(_):
 
 def test_levels_of_a_long_service_interval(_):
     """A packet of 48 frames comes every 8 microframes, and the stream primes with the first level of 512 or more."""
-    need("streams")
     text = "descriptor examples/f_uac2-default.bin\nstart 1\nwait 12 ms\n"
     rows = compose(text, "--only", "levels").stdout.decode().split("\n")[1:-1]
     wanted = [[str(8 * at), f"{at:.3f}", "1", str(min(48 * at, 528)), "528" if at >= 11 else "-", "6.000000"] for at in range(1, 13)]

@@ -4,7 +4,7 @@ import functools, json, re, struct
 from devices import answered_by_program, random_script
 from making import joined, records
 from needs import as_lines
-from tooling import example, need, one_sentence, same, tool
+from tooling import example, one_sentence, same, tool
 
 GADGET = "tests/captures/f_uac2-bint1-s24-48k"
 HEADSET = "tests/captures/linux-host-headset"
@@ -55,7 +55,6 @@ def only(script, *wanted, of=""):
 
 
 def test_captures_of_correct_devices(_):
-    need("transfers")
     for words in ((GADGET + ".pcap",), (GADGET + ".usbmon", "--descriptor", GADGET + ".bin"), (HEADSET + ".pcap",)):
         status, told = judged(script_of(*words))
         same((status, [one for one in told["findings"] if one["kind"] != "limit"]), (0, []), words[0])
@@ -65,7 +64,6 @@ def test_captures_of_correct_devices(_):
 
 def test_what_is_a_devices_own(_):
     """Ranges and values at the start may be any; the same stays so with other ones."""
-    need("transfers")
     told = judged(script_of(HEADSET + ".pcap"))[1]
     own = {one["control"]: (one["range"], one["start"]) for one in told["own"]}
     same((own["volume.3.1"], own["volume.3.2"], own["mute.6.0"]), (([[-24576, 0, 256]], 0), (None, 0), (None, 0)), "judge")
@@ -86,7 +84,6 @@ def test_what_is_a_devices_own(_):
 
 def test_the_program_is_a_correct_device(_):
     """Whatever it is asked, and whatever is lost: nothing is wrong, and nothing is other than the profile."""
-    need("streams")
     for seed, name in enumerate(("headset", "composite-uac2-midi", "f_uac2-default")):
         data = example(f"examples/{name}.bin")
         script = answered_by_program(data, random_script(seed, data, 60))
@@ -125,7 +122,6 @@ PLANTED = [
 
 
 def test_each_planted_answer_is_told_once(_):
-    need("transfers")
     script = script_of(HEADSET + ".pcap")
     for line, value, number, *wanted in PLANTED:
         only(answered(script, line, value, number), (*wanted, 1), of=f"{line} answered with {value}")
@@ -133,7 +129,6 @@ def test_each_planted_answer_is_told_once(_):
 
 def test_the_same_difference_is_one(_):
     """A device that answers each range with another MAX, and one that never tells a volume's range whole."""
-    need("transfers")
     script = script_of(GADGET + ".pcap")
     only(answered(script, "a102000200060800", "bytes 0100009c0000", 1, 3), (STANDARD, "other-length", "GET RANGE volume.6.0", 3))
     only(answered(script, "a101000100070400", "bytes 44ac0000"), (CONTRADICTS, "out-of-range", "GET CUR rate.7.0", 1))
@@ -141,7 +136,6 @@ def test_the_same_difference_is_one(_):
 
 def test_a_message_in_between(_):
     """After an interrupt message of a control its value may be another; of another control it may not."""
-    need("transfers")
     script = script_of(HEADSET + ".pcap")
     line = "c a101010200030200\n# said bytes 00ff"
     for message, wanted in (("000101020003", []), ("000101020006", [(CONTRADICTS, "other-value", "GET CUR volume.3.1", 1)])):
@@ -149,7 +143,6 @@ def test_a_message_in_between(_):
 
 
 def test_a_configuration_in_between(_):
-    need("transfers")
     script = script_of(HEADSET + ".pcap")
     line = "c a101010200030200\n# said bytes 00ff"
     chosen = "# 0009010000000000: not of the audio function; said done\nc a101010200030200\n# said bytes 0000"
@@ -161,7 +154,6 @@ def test_a_configuration_in_between(_):
 
 def test_the_profile(_):
     """With --profile the ranges that aren't ours are told, and the status is 3 where nothing is wrong."""
-    need("transfers")
     script = script_of(HEADSET + ".pcap")
     status, told = judged(script, "--profile")
     found = [(one["kind"], one["rule"], one["field"], one["count"]) for one in told["findings"]]
@@ -178,7 +170,6 @@ def as_script(lines, name="headset"):
 
 def test_values_that_the_program_cannot_hold(_):
     """A rate that is none of the twelve, and a quarter of a decibel: the device holds them, and is judged by its own words."""
-    need("transfers")
     lines = ["c 2101000100010400 00710200", "# said done", "c a101000100010400", "# said bytes 00710200",
              "c 2101010200030200 4000", "# said done", "c a101010200030200", "# said bytes 4000"]
     done = tool("judge", "-", "--json", data=as_script(lines))
@@ -191,7 +182,6 @@ def test_values_that_the_program_cannot_hold(_):
 
 def test_controls_that_the_program_does_not_play(_):
     """A declared bass control answers, and one that isn't declared may not; of one that can only be read no value may be set."""
-    need("transfers")
     data = bytearray(example("examples/headset.bin"))
     data[83:87] = (0x03 | 0x30 | 0x40).to_bytes(4, "little")
     lines = ["c a101000300030100", "# said bytes 05", "c 2101000300030100 06", "# said done", "c a101000300030100", "# said bytes 06",
@@ -204,7 +194,6 @@ def test_controls_that_the_program_does_not_play(_):
 
 def test_a_descriptor_that_the_program_refuses(_):
     """Which control is there isn't judged then; what the device contradicts itself in is told all the same."""
-    need("transfers")
     data = bytearray(example("examples/headset.bin"))
     data[83] = 2
     lines = ["c 2101010200030200 00ff", "# said done", "c a101010200030200", "# said bytes 00fe", "c a101030200030200", "# said bytes 0000"]
@@ -246,7 +235,6 @@ def changed(lines, at, event):
 
 
 def test_streams_to_the_device(_):
-    need("streams")
     plain = microframes(400)
     streams_are(streamed(plain))
     for event in ("o 1 7 ok 42", "o 1 5 ok 30", "o 1 6 lost 36", "o 1 - lost -"):
@@ -258,7 +246,6 @@ def test_streams_to_the_device(_):
 
 
 def test_reports(_):
-    need("streams")
     plain = microframes(400)
     out_of_band = "warning", "stream-report-out-of-band", "device", 1
     for event, wanted in (("f 1 000006 ok 000006", stream_wrong("report-length")),
@@ -288,7 +275,6 @@ def paced(values, ahead, count=4000, is_told=True, follows=True):
 def test_hosts(_):
     """Hosts that follow the reports, packets handed in beforehand allowed for; one that doesn't is told with the microframe at which it
     parts: 1,000 65,536ths too few in each from the ninth on come to two whole frames with the 132nd."""
-    need("streams")
     for values in ([394216], [393216, 394216, 396216, 392016]):
         for ahead in (0, 20, 85):
             for is_told in (True, False):
@@ -300,9 +286,8 @@ def test_hosts(_):
 
 
 def test_streams_without_reports(_):
-    """A host before an adaptive endpoint keeps the nominal pace, a remainder carried; before an asynchronous one without a feedback endpoint
-    it may follow a stream of the device, so its pace isn't judged."""
-    need("streams")
+    """A host before an adaptive endpoint keeps the nominal pace, a remainder carried; before an asynchronous one without a feedback
+    endpoint it may follow a stream of the device, so its pace isn't judged."""
     data = bytearray(example("examples/headset.bin"))
     at, feedback = data.index(bytes.fromhex("07050105960001")), data.index(bytes.fromhex("07058111040004"))
     data[data.index(bytes.fromhex("090401010201022000")) + 4] = 1
@@ -323,7 +308,6 @@ def test_streams_without_reports(_):
 
 
 def test_streams_from_the_device(_):
-    need("streams")
     plain = microframes(40, "i 2 - ok 0", None)[:3] + microframes(400, "i 2 6 ok 12", None)[3:]
     streams_are(streamed(plain, 2))
     for event in ("i 2 7 ok 14", "i 2 5 ok 10", "i 2 - lost -"):
@@ -337,7 +321,6 @@ def test_streams_from_the_device(_):
 
 def test_full_speed_streams(_):
     """At full speed a report has three bytes; four are a remark."""
-    need("streams")
     lines = microframes(80, "o 1 25 ok 150", "f 1 064000 ok 004006")
     head = "# bus 1, device 5, 275 bytes of configuration, full speed\n"
     streams_are(head + streamed(lines, rate="a8610000"))
@@ -351,7 +334,6 @@ def test_full_speed_streams(_):
 
 def test_planted_in_a_capture(_):
     """A report of three bytes, and a packet that the host made two frames too long, in the records of the capture itself."""
-    need("streams")
     data = example(HEADSET + ".pcap")
     for endpoint, length, wanted in ((0x81, 3, stream_wrong("report-length")), (0x01, 48, stream_wrong("host-parts", "host"))):
         found = records(data)
@@ -376,7 +358,6 @@ def test_docs_have_the_rules_of_judge(_):
 
 def test_judge_as_text(_):
     """What docs/TOOLS.md shows is what is printed."""
-    need("streams")
     done = tool("judge", "-", data=script_of(HEADSET + ".pcap").encode())
     shown = example("docs/TOOLS.md").decode().partition(f"$ tools/script_of {HEADSET}.pcap | tools/judge -\n")[2].partition("```")[0]
     same((done.stdout.decode(), done.returncode, done.stderr), (shown, 0, b""), "judge")
@@ -384,7 +365,6 @@ def test_judge_as_text(_):
 
 def test_differences_as_text(_):
     """One of each party; the same several times is told once, with the lines."""
-    need("streams")
     script = answered(script_of(HEADSET + ".pcap"), "a101000200010100", "bytes 0101", 3, 2)
     done = tool("judge", "-", data=script.replace(": o 1 6 ok 36 after 30", ": o 1 8 ok 48 after 30", 1).encode())
     lines = done.stdout.decode().split("\n")

@@ -4,7 +4,7 @@ from needs import PROGRAM, TOP, as_lines
 sys.path.insert(0, os.path.join(TOP, "tools/lib"))
 
 EXAMPLES = ("headset", "f_uac2-default", "f_uac2-bint1-s24-48k", "composite-uac2-midi", "minimal")
-SECONDS = 60
+SECONDS = 240
 # Microframes a second at detail 2, from which on a whole minute of the bus is played.
 FAST = 20000
 
@@ -33,10 +33,10 @@ def speed():
 
 
 class Server:
-    """tools/serve with these words, on a free port. Every wait has an end, and the server ends with the test."""
+    """tools/serve with these words, on a free port or this one. Every wait has an end, and the server ends with the test."""
 
-    def __init__(self, *words, before=None):
-        self.process = subprocess.Popen([os.path.join(TOP, "tools/serve"), *words, "--port", "0"], cwd=TOP, stdin=subprocess.PIPE,
+    def __init__(self, *words, before=None, port=0):
+        self.process = subprocess.Popen([os.path.join(TOP, "tools/serve"), *words, "--port", str(port)], cwd=TOP, stdin=subprocess.PIPE,
                                         stdout=subprocess.PIPE, stderr=subprocess.PIPE, preexec_fn=before,
                                         env={**os.environ, "UAC_CLI": PROGRAM})
         self.lines, self.text = queue.Queue(), []

@@ -2,7 +2,7 @@
 import os, subprocess
 from needs import TOP, why_missing
 
-SECONDS = 60
+SECONDS = 240
 
 
 class Skipped(Exception):

@@ -174,7 +174,6 @@ def test_four_lost_reports_are_not_steady(_):
 
 def test_no_text_lies_over_data(_):
     """No text stands in a panel, and none over another."""
-    need("streams")
     with open(os.path.join(TOP, "examples/stream.script"), "rb") as file:
         told = run(file.read())
     for drawing in (plotted(told, "--script", "examples/stream.script"), plotted(transcript())):
@@ -189,7 +188,6 @@ def test_no_text_lies_over_data(_):
 
 def test_plot_of_a_run(folder):
     """A run with its script: what was lost, and how far the clock was off, from the microframe on behind which the line stood."""
-    need("streams")
     text = "g\nc 010b010001000000\nk 1 1000\nv 2\nm 400\nm 8 o1\nm 8 f1\nm 384\nk 1 -500\nm 100\n"
     script = as_lines(example("examples/headset.bin")) + text.encode()
     path = os.path.join(folder, "run.script")
