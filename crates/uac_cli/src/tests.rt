@@ -637,23 +637,42 @@ fn is_done(
     }
 }
 
-/// A bus without meters does the lines of a script, one after the other, and prints this text.
+/// A bus without meters does the lines of a script by this rack, one after the other, and prints this text.
 fn expect_lines(
     rt: &impl Abort,
     alloc: Global,
+    rack: &Rack,
     script: &[u8],
     text: &[u8],
-) -> Result<(), AllocError> {
-    let renders = Rc::new(alloc, Cell::new(0u64))?;
-    let racks = counting_racks(alloc, &renders, &renders)?;
+) -> Result<(), AllocError>
+    requires { IsFitted (λ v x. (⟦<dyn Unit as Unit>⟧ v).kind_of x) rack.now }
+{
     let mut sink = sink_in_memory(alloc, 64, &[])?;
     let mut meters = Meters::new(Vec::new(alloc));
     let mut bus = Bus::new(alloc);
     for line in script.split(|byte| *byte == b'\n') {
-        assert!(rt; is_done(&mut bus, line, &racks.plain, &mut meters, &mut sink));
+        assert!(rt; is_done(&mut bus, line, rack, &mut meters, &mut sink));
     }
     assert!(rt; bus.finish().is_ok());
     assert_eq!(rt; sink.bytes_written(), text);
+    Ok(())
+}
+
+/// The boxes of each rack are asked so often in all by the lines of a script, which print this text.
+fn expect_renders(
+    rt: &impl Abort,
+    alloc: Global,
+    script: &[u8],
+    text: &[u8],
+    asked: u64,
+) -> Result<(), AllocError> {
+    let plain = Rc::new(alloc, Cell::new(0u64))?;
+    let lanes = Rc::new(alloc, Cell::new(0u64))?;
+    let racks = counting_racks(alloc, &plain, &lanes)?;
+    expect_lines(rt, alloc, &racks.plain, script, text)?;
+    expect_lines(rt, alloc, &racks.lanes, script, text)?;
+    assert_eq!(rt; plain.get(), asked);
+    assert_eq!(rt; lanes.get(), asked);
     Ok(())
 }
 
@@ -661,7 +680,7 @@ fn expect_lines(
 fn bus_does_one_line_after_the_other(rt: HostRuntime) -> Result<(), Fail> {
     let alloc = rt.alloc();
     let text = b"ready entities 0 streams 0 domains 0\ntime 2\nsteady yes\nrenders 0\n";
-    expect_lines(&rt, alloc, SCRIPT, text)?;
+    expect_renders(&rt, alloc, SCRIPT, text, 0)?;
     let text = b"ready entities 3 streams 1 domains 1
 c done
 time 44
@@ -670,6 +689,30 @@ domain 1 rate 48000 ticks 264
 stream 1 out setting 1 level 258 target 258 under 0 over 0 lost 0 missed 0
 renders 0
 ";
-    expect_lines(&rt, alloc, TRACK, text)?;
+    expect_renders(&rt, alloc, TRACK, text, 0)?;
+    Ok(())
+}
+
+/// A feature unit between two jacks, at 48,000 Hz: six ticks a microframe.
+const QUIET: &[u8] =
+    b"d 09025a000101008032080b00010100200009040000000101200009240100020440000008240a0103070000
+d 11240202010200010203000000000000001224060302
+d 0f0000000f0000000f000000000c2403ff0103000301000000
+g
+j 2 ramp 5 3
+m 40
+m 1
+q
+";
+
+#[test]
+fn ticks_that_are_done_at_once_are_asked_each(rt: HostRuntime) -> Result<(), Fail> {
+    let text = b"ready entities 4 streams 0 domains 1
+time 41
+steady yes
+domain 1 rate 48000 ticks 246
+renders 246
+";
+    expect_renders(&rt, rt.alloc(), QUIET, text, 246)?;
     Ok(())
 }

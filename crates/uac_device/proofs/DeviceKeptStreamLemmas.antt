@@ -108,7 +108,7 @@ ports_idle entities [] = refl
 ports_idle entities (s ∷ ss) = ap (λ ps. port_of entities s ∷ ps) (ports_idle entities ss)
 
 -- what holds of each interface's port holds of the ports
-all_ports : (P : Port → Type 0) (device : DeviceFields) → IsDevice device
+pub all_ports : (P : Port → Type 0) (device : DeviceFields) → IsDevice device
     → ((k : ℕ) (d : StreamInterface) → k < length device.function.streams → P (port_of device.function.entities (get_or device.function.streams k d)))
     → All P (ports device.device_streams)
 all_ports P device is each =

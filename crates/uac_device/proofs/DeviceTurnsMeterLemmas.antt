@@ -14,14 +14,14 @@ use Rattle.uac_device.specs.DeviceWorld.{after_frames, is_jack, is_output_jack}
 use Rattle.uac_device.specs.DeviceTurns.{frames_heard, heard_on, jack_of, jacks_of}
 
 -- one jack more
-frames_more : (wires : Frames) (domain : ℕ) (jacks : List OutputJack) (i : ℕ) (d : OutputJack) → i < length jacks
+pub frames_more : (wires : Frames) (domain : ℕ) (jacks : List OutputJack) (i : ℕ) (d : OutputJack) → i < length jacks
     → frames_heard wires domain (take (i + 1) jacks) ≡ frames_heard wires domain (take i jacks) ++ cons_option (heard_on wires domain (get_or jacks i d)) []
 frames_more wires domain jacks i d below =
     ap (frames_heard wires domain) (take_more jacks i d below)
     ∙ filter_map-append (heard_on wires domain) (take i jacks) (get_or jacks i d ∷ [])
 
 -- frames heard after frames
-after_more : (first second : List (List ℤ)) (shown : List Reading) → after_frames (first ++ second) shown ≡ after_frames second (after_frames first shown)
+pub after_more : (first second : List (List ℤ)) (shown : List Reading) → after_frames (first ++ second) shown ≡ after_frames second (after_frames first shown)
 unfolding after_frames
 after_more first second shown = fold-append (λ shown frame. map (after_hearing frame) shown) shown first second
 

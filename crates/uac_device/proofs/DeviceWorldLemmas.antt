@@ -142,7 +142,7 @@ jack_stands device wires terminal frame w jack set stands = record {
 -- ---- a tick
 
 -- a terminal of the bus to which no interface links gives silence again
-unlinked_gives : (w : DeviceWorld) (domain id : ℕ) → find (λ s. s.terminal == id) w.function.streams ≡ None
+pub unlinked_gives : (w : DeviceWorld) (domain id : ℕ) → find (λ s. s.terminal == id) w.function.streams ≡ None
     → w.given id ≡ silence (entity_in w id).cluster.channels → input_of domain w id ≡ silence (entity_in w id).cluster.channels
 unfolding input_of streamed_frame
 unlinked_gives w domain id nowhere silent = by (is_streamed domain (entity_in w id))
@@ -184,7 +184,7 @@ meaning_same : (entities : List Entity) (controls : Controls) (ins others : ℕ 
 unfolding meaning
 meaning_same entities controls ins others same id = samples_given entities controls ins others same (length entities) id
 
-rendered_given : (entities : List Entity) (controls : Controls) (ins : ℕ → List ℤ) (done : ℕ → Bool) (old new : Frames) → AreGiven entities ins old
+pub rendered_given : (entities : List Entity) (controls : Controls) (ins : ℕ → List ℤ) (done : ℕ → Bool) (old new : Frames) → AreGiven entities ins old
     → AreRendered entities controls (samples_on old) done old new → AreRendered entities controls ins done old new
 rendered_given entities controls ins done old new given rendered = record {
   wires = λ id.

@@ -17,5 +17,14 @@ pub mod DeviceKeptTickLemmas
 pub mod StillnessLemmas
 pub mod StreamAskedLemmas
 pub mod DeviceKeptControlLemmas
+pub mod DeviceTicksLemmas
+pub mod DeviceTicksStandLemmas
+pub mod DeviceRowsLemmas
+pub mod DeviceGoesOnLemmas
 pub mod Worked
 pub mod FollowingLemmas
+pub mod StreamRowsLemmas
+pub mod StreamRowsAllLemmas
+pub mod JacksLemmas
+pub mod HeldRowsLemmas
+pub mod HeardRowsLemmas

@@ -1,5 +1,6 @@
 // The device and its events.
-ghost use Rattle.std.specs.Prelude.{◌≡◌, ◌≤◌, ◌<◌, ◌+◌, ◌^◌, ◌≤ℤ◌, false, true, pos, negsuc, IfOk, length};
+ghost use Rattle.std.specs.Prelude.{◌≡◌, ◌≤◌, ◌<◌, ◌+◌, ◌*◌, ◌^◌, ◌≤ℤ◌, false, true, pos, negsuc, IfOk, length};
+ghost use Rattle.std.specs.List.{All};
 ghost use Rattle.std.specs.Option.{option_map};
 ghost use Rattle.uac_graph.specs.Meaning.{entity};
 ghost use Rattle.uac_graph.specs.Needs.{needed_units};
@@ -16,12 +17,17 @@ ghost use Rattle.uac_device.specs.DeviceKept.{IsControlled, DeviceStands, begun_
 ghost use Rattle.uac_device.specs.Stillness.{IsStill};
 ghost use Rattle.uac_device.specs.InterfaceStreams.{NoneRuns};
 ghost use Rattle.uac_request.specs.Requests.{answer_fields};
+ghost use Rattle.uac_device.specs.DeviceTicks.{MeetsNothing, after_tick_times, goes_on, readings_after};
+ghost use Rattle.uac_device.specs.DeviceTurns.{jacks_of};
+ghost use Rattle.uac_device.specs.Jacks.{tones_of};
 
 use crate::clocks::{DomainClock, advance, deviate};
 use crate::derived::Derived;
 use crate::device_streams::DeviceStreams;
-use crate::hearing::hear;
+use crate::hearing::{OutputJack, hear};
+use crate::jacks::Jack;
 use crate::parts::DeviceParts;
+use crate::rows::{give_tones, hear_rows, hold_inputs, keep_frames};
 use crate::still::{begin_unless, put_unless};
 use crate::streams::{Acted, Begun, holds_setting, stream_asked};
 use crate::terminals::is_output_jack;
@@ -31,7 +37,7 @@ use std::marker::Model;
 use uac_alt::Settings;
 use uac_descriptor::NoMemory;
 use uac_flow::Arrival;
-use uac_graph::{Graph, Wires};
+use uac_graph::{Graph, WireRows, Wires};
 use uac_pcm::{Frame, Packet, Tone};
 use uac_request::laws::each_interface_starts_with_a_setting;
 use uac_request::{Answer, Setup, answer};
@@ -53,12 +59,14 @@ pub struct Device {
     wires: Wires,
     clocks: Vec<DomainClock>,
     device_streams: DeviceStreams,
+    rows: WireRows,
 }
 
 impl Model for Device {
     ghost use Rattle.std.specs.Prelude.{◌≡◌};
     ghost use Rattle.uac_device.specs.DeviceKept.{DeviceFields, IsDevice};
     ghost use Rattle.uac_device.specs.Following.{IsDerived};
+    ghost use Rattle.uac_graph.specs.TickRows.{AreRowsOf};
 
     ghost Value = { DeviceFields };
 
@@ -80,7 +88,9 @@ impl Model for Device {
       device_streams = d.device_streams;
     })
         × (d.graph ≡ d.function.entities)
-        × IsDerived d.function d.store d.derived };
+        × IsDerived d.function d.store d.derived
+        × AreRowsOf d.function.entities d.rows
+        × (d.rows.room ≡ 128) };
 }
 
 impl Device {
@@ -99,6 +109,7 @@ impl Device {
             wires: parts.moving.wires,
             clocks: parts.moving.clocks,
             device_streams: parts.moving.device_streams,
+            rows: parts.moving.rows,
         })
     }
 
@@ -349,6 +360,69 @@ impl Device {
         met
     }
 
+    /// Whether so many ticks of a domain find no ring empty and none full.
+    pub fn goes_on(&self, domain: u8, ticks: u32) -> bool
+        ensures value { (w : DeviceWorld) → DeviceStands self.now w → result ≡ goes_on domain ticks w }
+        ensures meets { (w : DeviceWorld) → DeviceStands self.now w → result ≡ true → MeetsNothing domain ticks w }
+    {
+        functions_are_sound(&self.function);
+        interfaces_are_numbered();
+        self.device_streams.go_on(domain, ticks)
+    }
+
+    /// So many ticks of a domain, before each of which its jacks give the next frames of their tones: as `jack` and `tick`, one after the
+    /// other. Each unit that the domain needs is asked once for all of them.
+    pub fn tick_rows(
+        &mut self,
+        domain: u8,
+        ticks: u32,
+        jacks: &[Jack],
+        rack: &Rack,
+        meters: &mut Meters,
+        steps: &mut Steps,
+    )
+        requires rack { IsFitted (λ v x. (⟦<dyn Unit as Unit>⟧ v).kind_of x) rack.now }
+        requires some { 1 ≤ ticks }
+        requires most { ticks ≤ 128 }
+        requires kinds { All (λ j. is_input_jack (entity self.old.function.entities j.terminal) ≡ true) jacks.now }
+        requires channels { All (λ j. (entity self.old.function.entities j.terminal).cluster.channels ≡ j.channels) jacks.now }
+        requires room { steps.old + ticks * length (needed_units self.old.function.entities domain) < 2 ^ 64 }
+        ensures stands { (w : DeviceWorld) → DeviceStands self.old w
+            → DeviceStands self.new (after_tick_times domain (tones_of domain jacks.now) ticks w) }
+        ensures once { (w : DeviceWorld) → DeviceStands self.old w → steps.new ≡ steps.old + ticks * renders_of domain w }
+        ensures heard { (w : DeviceWorld) → DeviceStands self.old w
+            → readings (λ v x. (⟦<dyn Meter as Meter>⟧ v).reading_of x) meters.new
+            ≡ readings_after domain (tones_of domain jacks.now) w ticks
+            (readings (λ v x. (⟦<dyn Meter as Meter>⟧ v).reading_of x) meters.old) }
+        ensures function { self.new.function ≡ self.old.function }
+    {
+        functions_are_sound(&self.function);
+        sound_functions_are_small();
+        interfaces_are_numbered();
+        entities_have_channels();
+        let count = ticks as usize;
+        hold_inputs(&self.function, &self.wires, count, &mut self.rows);
+        give_tones(jacks, domain, count, &mut self.rows);
+        self.device_streams.take_rows(domain, ticks, &mut self.rows);
+        self.graph.ticks_by(
+            domain,
+            count,
+            &self.derived.jobs,
+            rack,
+            &mut self.rows,
+            steps,
+        );
+        self.device_streams.put_rows(domain, ticks, &self.rows);
+        hear_rows(self.derived.jacks(), &self.rows, domain, count, meters);
+        keep_frames(
+            &self.function,
+            domain,
+            count - 1,
+            &self.rows,
+            &mut self.wires,
+        );
+    }
+
     /// The frame of the last tick of an output jack; None exactly for ids of no output jack.
     pub fn played(&self, terminal: u8) -> Option<&Frame>
         ensures { (w : DeviceWorld) → DeviceStands self.now w → option_map (λ frame. frame.now.items) result ≡ played_at w terminal }
@@ -358,6 +432,13 @@ impl Device {
         } else {
             None
         }
+    }
+
+    /// The output jacks, in block order.
+    pub fn output_jacks(&self) -> &[OutputJack]
+        ensures { result.now ≡ jacks_of self.now.function.entities }
+    {
+        self.derived.jacks()
     }
 
     // Whether an id is of an output jack.

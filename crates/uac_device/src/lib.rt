@@ -16,11 +16,17 @@ mod derived;
 mod device;
 /// What the meters hear of a tick.
 mod hearing;
+/// The input jacks and their tones.
+mod jacks;
 pub mod laws;
 /// What ticks change, at the start.
 mod parts;
+/// What several ticks at once need beside the streams.
+mod rows;
 /// The beginning and the end of a tick in the device's streams.
 mod still;
+/// Several ticks at once, interface by interface.
+mod stream_rows;
 /// The stream that a request starts.
 mod streams;
 /// Which terminals carry no stream of the bus.
@@ -30,6 +36,9 @@ pub use clocks::DomainClock;
 pub use device::Device;
 pub use device_stream::{DeviceStream, Flow, Port};
 pub use device_streams::DeviceStreams;
+pub use hearing::OutputJack;
+pub use jacks::Jack;
+pub use parts::ROW_TICKS;
 pub use streams::{Acted, Begun};
 pub use terminals::{is_input_jack, is_output_jack, is_output_jack_of};
 pub use ticking::Ticked;

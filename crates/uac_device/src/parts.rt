@@ -1,5 +1,6 @@
 // What a device keeps beside its function and its settings, at the start.
 ghost use Rattle.std.specs.Prelude.{◌≡◌, IfOk, map};
+ghost use Rattle.uac_graph.specs.TickRows.{AreRowsOf};
 ghost use Rattle.uac_graph.specs.Wiring.{AreSilent, AreWiresOf};
 ghost use Rattle.uac_store.specs.StoreControls.{IsStoreOf, initial_controls};
 ghost use Rattle.uac_device.specs.DeviceStreams.{idle_stream, port_of};
@@ -11,7 +12,7 @@ use crate::derived::Derived;
 use crate::device_streams::DeviceStreams;
 use std::alloc::Global;
 use uac_descriptor::NoMemory;
-use uac_graph::{Graph, Wires};
+use uac_graph::{Graph, WireRows, Wires};
 use uac_store::Store;
 use uac_topology::Function;
 
@@ -30,12 +31,16 @@ pub struct Followed {
     pub derived: Derived,
 }
 
-/// The frames on a device's wires, the clocks of its domains, and the streams of its interfaces.
+/// How many ticks of a domain are done at once, at most.
+pub const ROW_TICKS: usize = 128;
+
+/// The frames on a device's wires, the clocks of its domains, the streams of its interfaces, and the room for the frames of several ticks.
 #[derive(Drop)]
 pub struct Moving {
     pub wires: Wires,
     pub clocks: Vec<DomainClock>,
     pub device_streams: DeviceStreams,
+    pub rows: WireRows,
 }
 
 impl DeviceParts {
@@ -50,6 +55,8 @@ impl DeviceParts {
         ensures clocks { IfOk result (λ parts. parts.moving.clocks.items ≡ map resting_clock function.now.domains) }
         ensures device_streams { IfOk result
             (λ parts. parts.moving.device_streams ≡ map (λ s. idle_stream (port_of function.now.entities s)) function.now.streams) }
+        ensures rows { IfOk result (λ parts. AreRowsOf function.now.entities parts.moving.rows) }
+        ensures room { IfOk result (λ parts. parts.moving.rows.room ≡ 128) }
     {
         let moving = at_rest(alloc, function)?;
         let store = Store::new(alloc, function)?;
@@ -81,13 +88,17 @@ fn at_rest(alloc: Global, function: &Function) -> Result<Moving, NoMemory>
     ensures clocks { IfOk result (λ moving. moving.clocks.items ≡ map resting_clock function.now.domains) }
     ensures device_streams { IfOk result
         (λ moving. moving.device_streams ≡ map (λ s. idle_stream (port_of function.now.entities s)) function.now.streams) }
+    ensures rows { IfOk result (λ moving. AreRowsOf function.now.entities moving.rows) }
+    ensures room { IfOk result (λ moving. moving.rows.room ≡ 128) }
 {
     let wires = Wires::new(alloc, function)?;
     let clocks = resting_clocks(alloc, function.domains())?;
     let device_streams = DeviceStreams::new(alloc, function)?;
+    let rows = WireRows::new(alloc, function, ROW_TICKS)?;
     Ok(Moving {
         wires,
         clocks,
         device_streams,
+        rows,
     })
 }

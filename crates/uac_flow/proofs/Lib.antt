@@ -1,4 +1,6 @@
 pub mod FlowsFrameLemmas
 pub mod FlowsCountLemmas
 pub mod FlowStreamsLemmas
+pub mod FlowTicksLemmas
+pub mod FlowTicksRowLemmas
 mod Worked

@@ -3,3 +3,4 @@
 pub mod FlowStreams
 -- What the laws say besides.
 pub mod Flows
+pub mod FlowTicks

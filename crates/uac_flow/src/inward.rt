@@ -3,14 +3,19 @@ ghost use Rattle.std.specs.Prelude.{◌≡◌, ◌≤◌, ℕ, ℤ, List, length
 ghost use Rattle.uac_alt.specs.AltStreams.{stream_fields};
 ghost use Rattle.uac_ring.specs.Rings.{ring_frames};
 ghost use Rattle.uac_flow.specs.Flows.{CanRun, IsInFlow, InStands};
+ghost use Rattle.uac_units.specs.SampleRows.{HaveTicks, frame_at};
+ghost use Rattle.uac_flow.specs.FlowTicks as ticks;
+ghost use Rattle.uac_flow.specs.FlowTicks.{IsHeld, in_after_ticks};
 ghost use Rattle.uac_flow.specs.FlowStreams as spec;
 ghost use Rattle.uac_flow.specs.FlowStreams.{InStream, after_putting, after_sending_in, sent_in_frames, sent_in_packet, in_after_end, started_in};
 
 use crate::counting::{is_due, next_count};
 use crate::frames::take_frames;
+use arrayvec::ArrayVec;
 use uac_alt::Stream;
 use uac_pcm::{Frame, Packet};
 use uac_ring::{RING_FRAMES, Ring};
+use uac_units::{Row, read_frame};
 
 /// What the device keeps of a stream from it, beside its ring.
 #[derive(Clone, Copy, Debug, PartialEq, Eq)]
@@ -57,6 +62,30 @@ impl InFlow {
         ensures sound { IsInFlow ring.new self.now }
     {
         let _ = ring.put(frame);
+    }
+
+    /// Puts the frames that its terminal played at so many ticks into the ring, while there is room.
+    pub fn put_rows(&self, ring: &mut Ring, ticks: u32, rows: &[Row])
+        requires sound { IsInFlow ring.old self.now }
+        requires channels { length rows.now ≡ self.now.stream.format.channels }
+        requires inside { HaveTicks ticks rows.now }
+        ensures stands { (i : InStream) → InStands ring.old self.now i
+            → InStands ring.new self.now (in_after_ticks (λ tick. frame_at tick rows.now) ticks i) }
+        ensures sound { IsInFlow ring.new self.now }
+    {
+        let mut frame: Frame = ArrayVec::new();
+        for tick in 0..ticks {
+            read_frame(rows, tick as usize, &mut frame);
+            self.put(ring, &frame);
+        }
+    }
+
+    /// Whether so many ticks find the stream's ring never full.
+    pub fn has_room(&self, ring: &Ring, count: u32) -> bool
+        ensures held { (i : InStream) → InStands ring.now self.now i → IsHeld i }
+        ensures room { (i : InStream) → InStands ring.now self.now i → result ≡ ticks.has_room count i }
+    {
+        RING_FRAMES - ring.level() >= count
     }
 
     /// Whether the stream's ring is full.

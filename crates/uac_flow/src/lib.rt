@@ -7,8 +7,12 @@ mod counting;
 mod frames;
 /// A running stream from the device.
 mod inward;
+/// Laws of streams.
+pub mod laws;
 /// A running stream to the device.
 mod outward;
+/// Frames between rings and rows.
+mod rows;
 
 pub use inward::InFlow;
 pub use outward::OutFlow;

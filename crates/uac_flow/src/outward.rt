@@ -1,21 +1,26 @@
 // A running stream to the device.
-ghost use Rattle.std.specs.Prelude.{◌≡◌, ℕ, ◌+◌, ◌≤◌, nat_le, ℤ, List, length, Some, None, IfSome, true};
+ghost use Rattle.std.specs.Prelude.{◌≡◌, ℕ, ◌+◌, ◌<◌, ◌≤◌, nat_le, ℤ, List, length, Some, None, IfSome, true};
 ghost use Rattle.std.specs.Option.{option_map};
 ghost use Rattle.uac_alt.specs.AltStreams.{stream_fields};
 ghost use Rattle.uac_pcm.specs.Packets.{whole_frames};
 ghost use Rattle.uac_ring.specs.Rings.{ring_frames};
 ghost use Rattle.uac_flow.specs.Flows.{CanRun, IsOutFlow, OutStands, ZerosFit};
+ghost use Rattle.uac_units.specs.SampleRows.{HaveTicks, frame_at, row_lengths};
+ghost use Rattle.uac_flow.specs.FlowTicks as ticks;
+ghost use Rattle.uac_flow.specs.FlowTicks.{given_at, out_after_ticks, ready_of};
 ghost use Rattle.uac_flow.specs.FlowStreams as spec;
 ghost use Rattle.uac_flow.specs.FlowStreams.{OutStream, after_packet, after_taking, arrival_of, feedback_of, next_taken, out_level};
 ghost use Rattle.uac_flow.specs.FlowStreams.{out_after_end, after_due_end, started_out, zeros_due};
 
 use crate::counting::{is_due, next_count, reports_now};
 use crate::frames::{put_frames, put_zeros};
+use crate::rows::{lay_frames, lay_silence};
 use uac_alt::Stream;
 use uac_pcm::laws::unpacked_frames_are_whole;
 use uac_pcm::{Frame, Packet};
 use uac_rate::report;
 use uac_ring::{Arrival, RING_FRAMES, Ring};
+use uac_units::Row;
 
 /// What the device keeps of a stream to it, beside its ring.
 #[derive(Clone, Copy, Debug, PartialEq, Eq)]
@@ -131,6 +136,66 @@ impl OutFlow {
         } else if self.target.is_some() {
             ring.drop_front();
         }
+    }
+
+    /// At each of so many ticks the stream's terminal takes the next frame, or silence where there is none: these go into rows. The stream
+    /// goes on by as many ticks.
+    pub fn take_rows(&mut self, ring: &mut Ring, ticks: u32, rows: &mut [Row])
+        requires sound { IsOutFlow ring.old self.old }
+        requires channels { length rows.old ≡ self.old.stream.format.channels }
+        requires inside { HaveTicks ticks rows.old }
+        ensures stands { (o : OutStream) → OutStands ring.old self.old o → OutStands ring.new self.new (out_after_ticks ticks o) }
+        ensures frames { (o : OutStream) → OutStands ring.old self.old o → (tick : ℕ) → tick < ticks
+            → frame_at tick rows.new ≡ given_at tick o }
+        ensures lengths { row_lengths rows.new ≡ row_lengths rows.old }
+        ensures sound { IsOutFlow ring.new self.new }
+        ensures stream { self.new.stream ≡ self.old.stream }
+    {
+        let taken = self.ready(ring).min(ticks);
+        lay_frames(ring, taken, rows);
+        lay_silence(taken, ticks, rows);
+        self.go_on_by(ring, ticks);
+    }
+
+    // How many frames the stream can give at the next ticks: none while it is priming.
+    fn ready(&self, ring: &Ring) -> u32
+        ensures there { result ≤ length ring.now }
+        ensures ready { (o : OutStream) → OutStands ring.now self.now o → result ≡ ready_of o }
+    {
+        if self.target.is_some() {
+            ring.level()
+        } else {
+            0
+        }
+    }
+
+    /// The stream goes on by so many ticks: its terminal took as many frames, or all, and then it primes again.
+    #[tactic(auto, unfolding(crate::specs::FlowTicks::out_after_ticks))]
+    pub fn go_on_by(&mut self, ring: &mut Ring, ticks: u32)
+        requires sound { IsOutFlow ring.old self.old }
+        ensures stands { (o : OutStream) → OutStands ring.old self.old o → OutStands ring.new self.new (out_after_ticks ticks o) }
+        ensures sound { IsOutFlow ring.new self.new }
+        ensures stream { self.new.stream ≡ self.old.stream }
+    {
+        if self.target.is_none() {
+            return;
+        }
+        if ticks <= ring.level() {
+            ring.drop_oldest(ticks);
+        } else {
+            ring.clear();
+            *self = OutFlow {
+                target: None,
+                ..*self
+            };
+        }
+    }
+
+    /// Whether so many ticks find the stream never dry.
+    pub fn lasts(&self, ring: &Ring, count: u32) -> bool
+        ensures { (o : OutStream) → OutStands ring.now self.now o → result ≡ ticks.lasts count o }
+    {
+        self.target.is_none() || count <= ring.level()
     }
 
     /// Whether the stream is primed and its ring is empty.

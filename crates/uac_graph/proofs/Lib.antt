@@ -19,3 +19,8 @@ pub mod JobsLemmas
 pub mod FrameRowsSampleLemmas
 pub mod TasksLemmas
 pub mod TasksOrderLemmas
+pub mod TickRowsLemmas
+pub mod TickTasksLemmas
+pub mod TickJobsLemmas
+pub mod TickSilenceLemmas
+pub mod TickSlotsLemmas

@@ -124,7 +124,7 @@ module _ (entities : List Entity) (indices : List ℕ) (sound : IsSignalGraph en
         skips = skips_none upto;
       }
 
-  along : (n upto : ℕ) (task : Task) (rest : List Task) → length indices ≡ upto + n → task ∷ rest ≡ tasks_at entities (drop upto indices)
+  pub along : (n upto : ℕ) (task : Task) (rest : List Task) → length indices ≡ upto + n → task ∷ rest ≡ tasks_at entities (drop upto indices)
       → IsNext entities indices upto task rest
   along zero upto task rest sized left =
       absurd (let none : task ∷ rest ≡ [] = left ∙ ap (λ (ps : List ℕ). tasks_at entities ps) (drop_all upto indices (omega (arith, sized))) in cc)
@@ -138,7 +138,7 @@ module _ (entities : List Entity) (indices : List ℕ) (sound : IsSignalGraph en
       ]
 
   -- where no task is left, input terminals alone are
-  ended : (n upto : ℕ) → length indices ≡ upto + n → [] ≡ tasks_at entities (drop upto indices) → Skips entities indices upto (length indices)
+  pub ended : (n upto : ℕ) → length indices ≡ upto + n → [] ≡ tasks_at entities (drop upto indices) → Skips entities indices upto (length indices)
   ended zero upto sized left =
       let here : upto ≡ length indices = omega (arith, sized) in
       subst (λ (n : ℕ). Skips entities indices upto n) here (skips_none upto)

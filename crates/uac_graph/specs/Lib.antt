@@ -7,6 +7,7 @@ pub mod Wiring
 -- What the laws say besides.
 pub mod Fitness
 -- What the contracts below them cite: steps of the code, no part of what is promised.
+pub mod TickRows
 pub mod FrameRows
 pub mod Jobs
 pub mod Tasks

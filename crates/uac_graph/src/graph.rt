@@ -1,5 +1,5 @@
 // The signal graph: which unit takes which signals, rendered tick by tick.
-ghost use Rattle.std.specs.Prelude.{◌≡◌, ◌<◌, ◌+◌, ◌^◌, ℕ, List, false, IfOk, length, sum};
+ghost use Rattle.std.specs.Prelude.{◌≡◌, ◌<◌, ◌≤◌, ◌+◌, ◌*◌, ◌^◌, ℕ, List, false, IfOk, length, sum};
 ghost use Rattle.uac_topology_rules.specs.Clusters.{is_input};
 ghost use Rattle.uac_topology_rules.specs.Links.{is_clock};
 ghost use Rattle.uac_topology_rules.specs.Table.{at};
@@ -11,6 +11,7 @@ ghost use Rattle.uac_graph.specs.Jobs.{AreJobs, AreSameBut, HasJob};
 ghost use Rattle.uac_graph.specs.Needs.{depends_on, needed_units, unit_count};
 ghost use Rattle.uac_graph.specs.Orders.{IsKeptOrder, frame_after};
 ghost use Rattle.uac_graph.specs.Tasks.{work_of};
+ghost use Rattle.uac_graph.specs.TickRows.{AreRowsOf, frames_at, slot_lengths};
 ghost use Rattle.uac_graph.specs.Wiring.{AreRendered, AreWiresOf, frame_on, samples_on};
 
 use crate::copies::copies_of;
@@ -18,6 +19,7 @@ use crate::job_table::Jobs;
 use crate::jobs::{ask, no_job};
 use crate::orders::{Order, indices_for, order_for, orders_of};
 use crate::tasks::{Task, Work};
+use crate::wire_rows::WireRows;
 use crate::wires::Wires;
 use std::alloc::Global;
 use std::marker::Model;
@@ -203,5 +205,130 @@ impl Graph {
         if !is_input(entity.kind) {
             wires.render(entity, job, rack, steps);
         }
+    }
+
+    /// So many ticks of a domain, each as `tick_by`, one after the other: at each, the samples are those of the meaning for what the input
+    /// terminals are given at that tick. Each of the units is rendered once a tick.
+    pub fn ticks_by(
+        &self,
+        domain: u8,
+        ticks: usize,
+        jobs: &Jobs,
+        rack: &Rack,
+        wires: &mut WireRows,
+        steps: &mut Steps,
+    )
+        requires rack { IsFitted (λ v x. (⟦<dyn Unit as Unit>⟧ v).kind_of x) rack.now }
+        requires jobs { (controls : Controls) × AreJobs self.now controls jobs.now }
+        requires wires { AreRowsOf self.now wires.old }
+        requires ticks { ticks ≤ wires.old.room }
+        requires room { steps.old + ticks * length (needed_units self.now domain) < 2 ^ 64 }
+        ensures rendered { (controls : Controls) → AreJobs self.now controls jobs.now → (tick : ℕ) → tick < ticks
+            → AreRendered self.now controls (samples_on (frames_at tick wires.old)) (depends_on self.now domain) (frames_at tick wires.old)
+            (frames_at tick wires.new) }
+        ensures fitting { AreRowsOf self.now wires.new }
+        ensures room { wires.new.room ≡ wires.old.room }
+        ensures once { steps.new ≡ steps.old + ticks * length (needed_units self.now domain) }
+    {
+        match order_for(&self.orders, domain) {
+            Some(order) => self.follow_ticks(order, ticks, jobs, rack, wires, steps),
+            None => {}
+        }
+    }
+
+    // Does what is done at the indices of an order, at each of so many ticks, one after the other.
+    fn follow_ticks(
+        &self,
+        order: &Order,
+        ticks: usize,
+        jobs: &Jobs,
+        rack: &Rack,
+        wires: &mut WireRows,
+        steps: &mut Steps,
+    )
+        requires rack { IsFitted (λ v x. (⟦<dyn Unit as Unit>⟧ v).kind_of x) rack.now }
+        requires sound { IsSignalGraph self.now }
+        requires order { IsKeptOrder self.now order.now }
+        requires jobs { (controls : Controls) × AreJobs self.now controls jobs.now }
+        requires wires { AreRowsOf self.now wires.old }
+        requires ticks { ticks ≤ wires.old.room }
+        requires room { steps.old + ticks * length (needed_units self.now order.now.domain) < 2 ^ 64 }
+        ensures rendered { (controls : Controls) → AreJobs self.now controls jobs.now → (tick : ℕ) → tick < ticks
+            → AreRendered self.now controls (samples_on (frames_at tick wires.old)) (depends_on self.now order.now.domain)
+            (frames_at tick wires.old) (frames_at tick wires.new) }
+        ensures lengths { slot_lengths wires.new.slots ≡ slot_lengths wires.old.slots }
+        ensures room { wires.new.room ≡ wires.old.room }
+        ensures once { steps.new ≡ steps.old + ticks * length (needed_units self.now order.now.domain) }
+    {
+        for task in order.tasks.as_slice() {
+            self.carry_out_ticks(task, ticks, jobs, rack, wires, steps);
+        }
+    }
+
+    // Does what is done at one index at each of so many ticks, where the sources of its entity are rendered.
+    fn carry_out_ticks(
+        &self,
+        task: &Task,
+        ticks: usize,
+        jobs: &Jobs,
+        rack: &Rack,
+        wires: &mut WireRows,
+        steps: &mut Steps,
+    )
+        requires rack { IsFitted (λ v x. (⟦<dyn Unit as Unit>⟧ v).kind_of x) rack.now }
+        requires sound { IsSignalGraph self.now }
+        requires task { task.now.work ≡ work_of (at self.now task.now.index) }
+        requires inside { task.now.index < length self.now }
+        requires signal { is_clock (at self.now task.now.index).kind ≡ false }
+        requires worked { is_input (at self.now task.now.index).kind ≡ false }
+        requires jobs { (controls : Controls) × AreJobs self.now controls jobs.now }
+        requires wires { AreRowsOf self.now wires.old }
+        requires ticks { ticks ≤ wires.old.room }
+        requires room { steps.old + ticks * unit_count (at self.now task.now.index).kind < 2 ^ 64 }
+        ensures rendered { (controls : Controls) → AreJobs self.now controls jobs.now → (tick : ℕ) → tick < ticks
+            → (id : ℕ) → frame_on (frames_at tick wires.new) id ≡ frame_after self.now controls task.now.index (frames_at tick wires.old) id }
+        ensures lengths { slot_lengths wires.new.slots ≡ slot_lengths wires.old.slots }
+        ensures room { wires.new.room ≡ wires.old.room }
+        ensures counted { steps.new ≡ steps.old + ticks * unit_count (at self.now task.now.index).kind }
+    {
+        match task.work {
+            Work::Pass { from, to } => wires.pass(from, to, ticks),
+            Work::Render { kind, source, id } => {
+                let job = jobs.at(task.index);
+                wires.render_one(id, source, rack.unit(kind), job, ticks, steps);
+            }
+            Work::Ask => {
+                let job = jobs.at(task.index);
+                self.render_ticks(task.index, job, ticks, rack, wires, steps);
+            }
+        }
+    }
+
+    // Renders the entity at an index by its job at each of so many ticks, where its sources are rendered.
+    fn render_ticks(
+        &self,
+        index: usize,
+        job: &Job,
+        ticks: usize,
+        rack: &Rack,
+        wires: &mut WireRows,
+        steps: &mut Steps,
+    )
+        requires rack { IsFitted (λ v x. (⟦<dyn Unit as Unit>⟧ v).kind_of x) rack.now }
+        requires inside { index < length self.now }
+        requires signal { is_clock (at self.now index).kind ≡ false }
+        requires worked { is_input (at self.now index).kind ≡ false }
+        requires job { (controls : Controls) × HasJob controls (at self.now index) (sum (pins_of self.now (at self.now index))) job.now }
+        requires wires { AreRowsOf self.now wires.old }
+        requires ticks { ticks ≤ wires.old.room }
+        requires room { steps.old + ticks * unit_count (at self.now index).kind < 2 ^ 64 }
+        ensures rendered { (controls : Controls) → HasJob controls (at self.now index) (sum (pins_of self.now (at self.now index))) job.now
+            → (tick : ℕ) → tick < ticks
+            → (id : ℕ) → frame_on (frames_at tick wires.new) id ≡ frame_after self.now controls index (frames_at tick wires.old) id }
+        ensures lengths { slot_lengths wires.new.slots ≡ slot_lengths wires.old.slots }
+        ensures room { wires.new.room ≡ wires.old.room }
+        ensures counted { steps.new ≡ steps.old + ticks * unit_count (at self.now index).kind }
+    {
+        wires.render(self.table.at(index), job, ticks, rack, steps);
     }
 }

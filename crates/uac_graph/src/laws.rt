@@ -1,6 +1,6 @@
 // What a user of the graph may rely on. Each function does nothing: its contract is the law.
 
-ghost use Rattle.std.specs.Prelude.{◌≡◌, ◌==◌, ◌<◌, ◌^◌, ◌&&◌, nat_eq, ℕ, ℤ, List, true, false, length};
+ghost use Rattle.std.specs.Prelude.{◌≡◌, ◌==◌, ◌<◌, ◌≤◌, ◌*◌, ◌^◌, ◌&&◌, nat_eq, ℕ, ℤ, List, true, false, length};
 ghost use Rattle.std.specs.List.{IsDistinct, list_any};
 ghost use Rattle.uac_entities.specs.declared.entity.Entity.{Entity};
 ghost use Rattle.uac_topology_rules.specs.Links.{is_clock};
@@ -52,6 +52,13 @@ pub fn output_terminals_are_ends()
     ensures { (function : FunctionFields) → IsSoundFunction function → (domain id : ℕ) → is_output (entity function.entities id).kind ≡ true
         → depends_on function.entities domain id ≡ is_end domain (entity function.entities id) }
 {}
+
+/// A domain needs no more units than its function has entities, so a fresh count has room for those of so many ticks.
+pub fn fresh_steps_have_room_for_ticks(function: &Function)
+    ensures { (domain ticks : ℕ) → ticks ≤ 128 → ticks * length (needed_units function.now.entities domain) < 2 ^ 64 }
+{
+    let _entities = function.entities();
+}
 
 /// A domain needs no more units than its function has entities, so a fresh count has room for them.
 #[tactic(auto, using(crate::proofs::NeedsLemmas::needed_few))]

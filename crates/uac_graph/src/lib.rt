@@ -18,16 +18,21 @@ mod jobs;
 pub mod laws;
 /// The order in which a domain's entities are rendered.
 mod orders;
+/// The rows of an entity's channels.
+mod row_slots;
 /// Samples written over others.
 mod samples;
 /// What is done at the indices of an order.
 mod tasks;
 /// The output terminals of a clock domain.
 mod terminals;
+/// The frames of several ticks on the wires.
+mod wire_rows;
 /// The frames on the wires.
 mod wires;
 
 pub use graph::Graph;
 pub use job_table::Jobs;
 pub use terminals::is_end;
+pub use wire_rows::WireRows;
 pub use wires::Wires;

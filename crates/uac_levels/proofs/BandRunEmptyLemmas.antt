@@ -15,7 +15,7 @@ use Rattle.uac_device.specs.DeviceWorld.{DeviceWorld, Domain, after_advance, is_
 use Rattle.uac_script.specs.Phrase.{PhraseMark}
 use Rattle.uac_transcript.specs.Transcript.{Said, says_over, says_under}
 use Rattle.uac_streaming.specs.StreamingWorld.{StreamingWorld, all_ends, finds_empty, finds_full, loses_out, out_packets}
-use Rattle.uac_running.specs.declared.jacks.Jack.{Jack}
+use Rattle.uac_device.specs.declared.jacks.Jack.{Jack}
 use Rattle.uac_running.specs.RunningWorld.{RunningWorld, streaming_of}
 use Rattle.uac_running.specs.Events.{after_all_jacks, domain_microframe, domain_microframes, microframe, tick, tick_times}
 use Rattle.uac_levels.specs.Life.{Life, ticks_taken, with_packet, with_step}

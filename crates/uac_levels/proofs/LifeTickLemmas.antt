@@ -13,7 +13,7 @@ use Rattle.uac_flow.specs.FlowStreams.{after_taking, after_ticks}
 use Rattle.uac_host.specs.HostWorld.{Track}
 use Rattle.uac_device.specs.DeviceWorld.{DeviceWorld, Domain, after_advance, is_on, next_ticks, set_jack, step_in, steps_with_next, after_tick}
 use Rattle.uac_streaming.specs.StreamingWorld.{StreamingWorld}
-use Rattle.uac_running.specs.declared.jacks.Jack.{Jack}
+use Rattle.uac_device.specs.declared.jacks.Jack.{Jack}
 use Rattle.uac_running.specs.RunningWorld.{RunningWorld, streaming_of}
 use Rattle.uac_running.specs.Events.{after_all_jacks, domain_microframe, domain_microframes, after_jacks, next_frame, tick, tick_times}
 use Rattle.uac_levels.specs.Life.{Life, ticks_taken, with_step}

@@ -20,7 +20,7 @@ use Rattle.uac_ring.specs.declared.counts.StreamCounts.{StreamCounts}
 use Rattle.uac_streaming.specs.Telling.{Telling, without_event, in_turn}
 use Rattle.uac_streaming.specs.StreamingWorld.{StreamingWorld, after_arrival, all_feedback, all_ends, counted_at, fetched_lines, finds_empty, finds_full, found_counts, in_packet_turn, in_packets, is_in_due, is_out_due, loses_in, loses_out, loses_feedback, numbers, one_lost, one_missed, one_over, one_under, out_packets, out_turn, packet_fetched, packet_sent_out, packet_to, feedback_lines, feedback_made, feedback_turn, sent_out_lines, end_turn}
 use Rattle.uac_streaming.proofs.RoomLemmas.{next_few}
-use Rattle.uac_running.specs.declared.jacks.Jack.{Jack}
+use Rattle.uac_device.specs.declared.jacks.Jack.{Jack}
 use Rattle.uac_running.specs.RunningWorld.{RunningWorld, streaming_of, with_streaming}
 use Rattle.uac_levels.proofs.TellingTurnLemmas.{own_number}
 use Rattle.uac_running.specs.Events.{after_one, after_all_jacks, domain_microframe, domain_microframes, ends_and_feedback, microframe, microframes, next_frame, packets_and_ticks, tick, tick_times}

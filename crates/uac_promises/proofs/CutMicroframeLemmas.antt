@@ -10,9 +10,10 @@ use Rattle.uac_device.specs.DeviceWorld.{DeviceWorld, after_advance, feedback_in
 use Rattle.uac_script.specs.Phrase.{PhraseMark}
 use Rattle.uac_streaming.specs.Telling.{without_event}
 use Rattle.uac_streaming.specs.StreamingWorld.{StreamingWorld, all_feedback, all_ends, fetched_lines, in_lines, in_packet_turn, in_packets, is_in_due, is_out_due, loses_in, loses_out, loses_feedback, numbers, out_packets, out_turn, packet_fetched, packet_sent_out, feedback_lines, feedback_made, feedback_turn, sent_out_lines, end_turn}
-use Rattle.uac_running.specs.declared.jacks.Jack.{Jack}
+use Rattle.uac_device.specs.declared.jacks.Jack.{Jack}
+use Rattle.uac_device.specs.Jacks.{next_frame}
 use Rattle.uac_running.specs.RunningWorld.{RunningWorld, streaming_of, with_streaming}
-use Rattle.uac_running.specs.Events.{after_all_jacks, domain_microframe, domain_microframes, ends_and_feedback, microframe, microframes, next_frame, packets_and_ticks, tick, tick_times}
+use Rattle.uac_running.specs.Events.{after_all_jacks, domain_microframe, domain_microframes, ends_and_feedback, microframe, microframes, packets_and_ticks, tick, tick_times}
 use Rattle.uac_levels.proofs.TellingTurnLemmas.{turns_keep}
 use Rattle.uac_promises.specs.CutSamples.{MicroframeIsCut, PacketsAreCut, at_in_turn, at_out_turn, cut_frames}
 use Rattle.uac_promises.proofs.CutGraphLemmas.{IsFrame-tone}

@@ -14,7 +14,7 @@ use Rattle.uac_device.specs.DeviceWorld.{after_sending_in_packet as device_sends
 use Rattle.uac_script.specs.Phrase.{PhraseMark}
 use Rattle.uac_streaming.specs.Telling.{Telling, without_event}
 use Rattle.uac_streaming.specs.StreamingWorld.{StreamingWorld, all_feedback, all_ends, fetched_lines, given_at, in_packet_turn, in_packets, is_in_due, is_out_due, loses_in, loses_out, loses_feedback, numbers, out_packets, out_turn, packet_fetched, packet_sent_out, packet_to, stream_index, feedback_lines, feedback_made, feedback_turn, sent_out_lines, end_turn}
-use Rattle.uac_running.specs.declared.jacks.Jack.{Jack}
+use Rattle.uac_device.specs.declared.jacks.Jack.{Jack}
 use Rattle.uac_running.specs.RunningWorld.{RunningWorld, streaming_of, with_streaming}
 use Rattle.uac_running.specs.Events.{after_all_jacks, domain_microframe, domain_microframes, ends_and_feedback, microframe, next_frame, packets_and_ticks, tick, tick_times}
 use Rattle.uac_streaming.proofs.AmongLemmas.{Among}

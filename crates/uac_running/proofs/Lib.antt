@@ -13,4 +13,7 @@ pub mod RoomLemmas
 pub mod RunningTransfersLemmas
 pub mod RunningTransfersLineLemmas
 pub mod RunningLinesReportLemmas
+pub mod EventTicksLemmas
+pub mod EventRowsLemmas
+pub mod QuietLemmas
 pub mod Worked

@@ -1,16 +1,18 @@
 -- Lines that are printed of a running device.
 use Rattle.std.proofs.Common.{◌≡◌, ℕ, ◌<◌, ◌==◌, ◌&&◌, Bool, true, false, cond, if◌then◌else◌, ℤ, List, [], ◌∷◌, ◌++◌, map, length, get_or, flat_map, unwrap_or, slice_get, Option, None, Some, Result, refl, sym, ap, subst, ◌∙◌, arith, inl, inr, not}
 use Rattle.std.specs.Prelude.{filter}
+use Rattle.std.specs.List.{All}
 use Rattle.std.specs.Option.{option_map}
-use Rattle.std.proofs.lemmas.Bool.{and_parts, and_from, cases_lt, cond-true, eq-eqb}
+use Rattle.std.proofs.lemmas.Bool.{cases_lt, cond-true, eq-eqb}
 use Rattle.std.specs.List.{position_or_len}
+use Rattle.std.proofs.lemmas.List.Elements.{All-filter, All-map, filter_passes}
 use Rattle.std.proofs.lemmas.List.Sums.{prefix_len_passes}
 use Rattle.std.proofs.lemmas.List.{get_or_default, get_or-map, length-map}
 use Rattle.std.proofs.lemmas.Option.{slice_get-map, slice_get-get_or}
 use Rattle.uac_entities.specs.declared.entity.Entity.{Entity}
 use Rattle.uac_entities.specs.declared.stream.StreamInterface.{StreamInterface}
 use Rattle.uac_topology_rules.specs.Rules.{is_output}
-use Rattle.uac_topology_rules.specs.Table.{at, index_of, nothing}
+use Rattle.uac_topology_rules.specs.Table.{at, nothing}
 use Rattle.uac_topology.specs.Function.{FunctionFields}
 use Rattle.uac_topology.specs.Topology.{IsSoundFunction}
 use Rattle.uac_store.specs.declared.keys.Key.{Key}
@@ -20,7 +22,7 @@ use Rattle.uac_alt.specs.declared.settings.InterfaceSetting.{InterfaceSetting}
 use Rattle.uac_units.specs.Hearing.{Reading}
 use Rattle.uac_units.specs.declared.meter.MeterKind.{MeterKind}
 use Rattle.uac_graph.specs.Meaning.{entity}
-use Rattle.uac_graph.specs.Needs.{is_end}
+use Rattle.uac_graph.specs.Fitness.{IsSignalGraph}
 use Rattle.uac_graph.proofs.FitnessLemmas.{sound_graph}
 use Rattle.uac_edges.specs.Writing.{Writes}
 use Rattle.uac_ring.specs.declared.counts.StreamCounts.{StreamCounts}
@@ -28,65 +30,83 @@ use Rattle.uac_transcript.specs.Transcript.{Said, says_domain, says_meter, says_
 use Rattle.uac_streaming.specs.StreamingWorld as streams
 use Rattle.uac_topology_rules.proofs.ListFindLemmas.{position-below}
 use Rattle.uac_device.specs.DeviceKept.{DeviceFields, DeviceStands}
-use Rattle.uac_device.specs.DeviceWorld.{Domain, DeviceWorld, is_jack, is_output_jack, level_of, played_at, target_of}
+use Rattle.uac_device.specs.DeviceWorld.{Domain, DeviceWorld, is_jack, is_output_jack, is_output_jack_of, level_of, played_at, target_of}
+use Rattle.uac_device.specs.DeviceTurns.{jack_of, jacks_of}
+use Rattle.uac_device.specs.declared.hearing.OutputJack.{OutputJack}
 use Rattle.uac_running.specs.declared.counts.TickCount.{TickCount}
 use Rattle.uac_running.specs.TickCounts.{tick_count_of}
 use Rattle.uac_running.specs.ReportLines.{domain_line, played_line, played_lines, says_stream, stream_line}
 
--- a line for each of the items that a test keeps
-pub kept_only : {X : Type 0} (f : X → Said) (p : X → Bool) (xs : List X) → map f (filter p xs) ≡ flat_map (λ x. if p x then f x ∷ [] else []) xs
-kept_only f p [] = refl
-kept_only f p (x ∷ xs) = first (p x) ∙ ap (λ ys. (if p x then f x ∷ [] else []) ++ ys) (kept_only f p xs)
+-- ---- what output jacks played
+
+-- what is said of an output jack, where it is of the domain
+abbrev pub of_jack : ℕ → DeviceWorld → OutputJack → List Said
+of_jack domain w j = if j.domain == domain then says_played j.terminal (w.played j.terminal) ∷ [] else []
+
+-- of all output jacks among entities this is said
+jacks_said : (domain : ℕ) (w : DeviceWorld) (entities : List Entity)
+    → flat_map (of_jack domain w) (jacks_of entities) ≡ map (played_line w) (filter (is_output_jack_of domain) entities)
+jacks_said domain w [] = refl
+jacks_said domain w (e ∷ es) = first (is_output_jack e) ∙ one (is_output e.kind) (e.clock == domain) (is_jack e) (jacks_said domain w es)
   where
-    first : (b : Bool) → map f (cond b (x ∷ filter p xs) (filter p xs)) ≡ (if b then f x ∷ [] else []) ++ map f (filter p xs)
+    said : List Said
+    said = flat_map (of_jack domain w) (jacks_of es)
+
+    rest : List Entity
+    rest = filter (is_output_jack_of domain) es
+
+    first : (b : Bool) → flat_map (of_jack domain w) (map jack_of (cond b (e ∷ filter is_output_jack es) (filter is_output_jack es)))
+        ≡ cond b (of_jack domain w (jack_of e) ++ said) said
     first true = refl
     first false = refl
 
--- ---- what output jacks played
+    one : (output own jack : Bool) → said ≡ map (played_line w) rest
+        → cond (output && jack) ((if own then says_played e.id (w.played e.id) ∷ [] else []) ++ said) said
+        ≡ map (played_line w) (cond ((output && own) && jack) (e ∷ rest) rest)
+    one true true true others = ap (λ (lines : List Said). says_played e.id (w.played e.id) ∷ lines) others
+    one true false true others = others
+    one true true false others = others
+    one true false false others = others
+    one false own jack others = others
 
--- what is said of an entity
-abbrev pub of_entity : ℕ → DeviceWorld → Entity → List Said
-of_entity clock w e = if is_end clock e && is_jack e then played_line w e ∷ [] else []
-
-pub each-played : (clock : ℕ) (w : DeviceWorld) (entities : List Entity) → entities ≡ w.function.entities → flat_map (of_entity clock w) entities ≡ played_lines clock w
+pub jacks_played : (domain : ℕ) (w : DeviceWorld) (jacks : List OutputJack) → jacks ≡ jacks_of w.function.entities
+    → flat_map (of_jack domain w) jacks ≡ played_lines domain w
 unfolding played_lines
-each-played clock w entities e =
-    ap (flat_map (of_entity clock w)) e
-    ∙ sym (kept_only (played_line w) (λ (x : Entity). is_end clock x && is_jack x) w.function.entities)
+jacks_played domain w jacks same = ap (flat_map (of_jack domain w)) same ∙ jacks_said domain w w.function.entities
 
 -- in a sound function an entity's id leads to it
-pub entity_of-own : (function : FunctionFields) (items : List Entity) (index : ℕ) (e : Entity) → IsSoundFunction function → items ≡ function.entities → index < length items
-    → e ≡ get_or items index e → entity function.entities e.id ≡ e
+each_own : (entities : List Entity) → IsSignalGraph entities → All (λ (e : Entity). entity entities e.id ≡ e) entities
 unfolding entity at
-entity_of-own function items index e sound same within is =
-    let graph = sound_graph function sound in
-    let below : index < length function.entities = subst (λ (xs : List Entity). index < length xs) same within in
-    let here : at function.entities index ≡ e =
-    get_or_default function.entities index nothing e below ∙ sym (is ∙ ap (λ (xs : List Entity). get_or xs index e) same) in
-    ap (at function.entities) (ap (λ (x : Entity). index_of function.entities x.id) (sym here) ∙ graph.distinct index below) ∙ here
+each_own entities graph k d below =
+    let is : get_or entities k d ≡ at entities k = get_or_default entities k d nothing below in
+    subst (λ (e : Entity). entity entities e.id ≡ e) (sym is) (ap (at entities) (graph.distinct k below))
 
--- an output jack of a domain has a frame
-played_here : (clock : ℕ) (w : DeviceWorld) (e : Entity) → entity w.function.entities e.id ≡ e → true ≡ (is_end clock e && is_jack e) → played_at w e.id ≡ Some (w.played e.id)
+-- so the terminal of each of its output jacks is one
+pub jacks_are : (function : FunctionFields) → IsSoundFunction function
+    → All (λ (j : OutputJack). is_output_jack (entity function.entities j.terminal) ≡ true) (jacks_of function.entities)
+jacks_are function sound =
+    All-map (λ (j : OutputJack). is_output_jack (entity function.entities j.terminal) ≡ true) jack_of (filter is_output_jack function.entities)
+    (λ k d below. ap is_output_jack (own k d below) ∙ filter_passes is_output_jack function.entities k d below)
+  where
+    own : All (λ (e : Entity). entity function.entities e.id ≡ e) (filter is_output_jack function.entities)
+    own = All-filter is_output_jack (λ (e : Entity). entity function.entities e.id ≡ e) function.entities
+        (each_own function.entities (sound_graph function sound))
+
+-- a terminal that is one has a frame
+played_here : (w : DeviceWorld) (device : DeviceFields) (id : ℕ) → DeviceStands device w → is_output_jack (entity device.function.entities id) ≡ true
+    → played_at w id ≡ Some (w.played id)
 unfolding played_at
-played_here clock w e own ends =
-    let parts = and_parts (is_end clock e) (is_jack e) (sym ends) in
-    let output = and_parts (is_output e.kind) (e.clock == clock) parts.0 in
-    ap (λ (x : Entity). if is_output_jack x then Some (w.played e.id) else None) own ∙ cond-true _ _ _ (and_from _ _ output.0 parts.1)
-
-own_of : (device : DeviceFields) (w : DeviceWorld) (e : Entity) → DeviceStands device w → entity device.function.entities e.id ≡ e → entity w.function.entities e.id ≡ e
-own_of device w e stands own = ap (λ f. entity f.entities e.id) (sym stands.function) ∙ own
+played_here w device id stands output =
+    cond-true _ _ _ (subst (λ (f : FunctionFields). is_output_jack (entity f.entities id) ≡ true) stands.function output)
 
 -- the frame of an output jack is the one that is said of it
-pub said-played : (clock : ℕ) (w : DeviceWorld) (device : DeviceFields) (e : Entity) (samples : List ℤ) → DeviceStands device w → entity device.function.entities e.id ≡ e
-    → true ≡ (is_end clock e && is_jack e) → Some samples ≡ played_at w e.id → says_played e.id samples ∷ [] ≡ of_entity clock w e
-said-played clock w device e samples stands own ends played =
-    let here = played_here clock w e (own_of device w e stands own) ends in
-    let same : samples ≡ w.played e.id = cc in
-    ap (λ (s : List ℤ). says_played e.id s ∷ []) same ∙ sym (cond-true _ _ _ (sym ends))
+pub said-played : (w : DeviceWorld) (device : DeviceFields) (id : ℕ) (samples : List ℤ) → DeviceStands device w
+    → is_output_jack (entity device.function.entities id) ≡ true → Some samples ≡ played_at w id → samples ≡ w.played id
+said-played w device id samples stands output played = let here = played_here w device id stands output in cc
 
-pub none_played : (clock : ℕ) (w : DeviceWorld) (device : DeviceFields) (e : Entity) → DeviceStands device w → entity device.function.entities e.id ≡ e
-    → true ≡ (is_end clock e && is_jack e) → None ≡ played_at w e.id → ⊥
-none_played clock w device e stands own ends played = let here = played_here clock w e (own_of device w e stands own) ends in cc
+pub none_played : (w : DeviceWorld) (device : DeviceFields) (id : ℕ) → DeviceStands device w → is_output_jack (entity device.function.entities id) ≡ true
+    → None ≡ played_at w id → ⊥
+none_played w device id stands output played = let here = played_here w device id stands output in cc
 
 -- ---- the report
 

@@ -15,7 +15,7 @@ use Rattle.uac_streaming.specs.Room.{HaveRoom}
 use Rattle.uac_streaming.proofs.RoomDeviceLemmas.{AreWithin, HaveSmallNumbers, advanced_within, all_fit, all_opened, any_clock, jack_within, ticked_within}
 use Rattle.uac_streaming.proofs.RoomStartLemmas.{controlled_room, deviated_room}
 use Rattle.uac_streaming.proofs.RoomTurnLemmas.{IsRoomy, all_feedback_keeps, all_ends_room, in_packets_within, out_packets_within}
-use Rattle.uac_running.specs.declared.jacks.Jack.{Jack}
+use Rattle.uac_device.specs.declared.jacks.Jack.{Jack}
 use Rattle.uac_running.specs.RunningWorld.{RunningWorld, streaming_of, with_deviation, with_streaming}
 use Rattle.uac_running.specs.Events.{after_all_jacks, domain_microframe, domain_microframes, ends_and_feedback, after_jacks, microframe, next_frame, packets_and_ticks, tick, tick_times}
 use Rattle.uac_running.specs.RunningTransfers.{acts, holds_setting, after_transfer}

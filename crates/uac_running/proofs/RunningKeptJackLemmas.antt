@@ -11,8 +11,9 @@ use Rattle.uac_device.specs.DeviceKept.{DeviceFields, DeviceStands}
 use Rattle.uac_device.specs.DeviceWorld.{DeviceWorld, is_input_jack, set_jack}
 use Rattle.uac_topology.specs.Function.{FunctionFields}
 use Rattle.uac_graph.specs.Meaning.{entity}
-use Rattle.uac_running.specs.declared.jacks.Jack.{Jack}
-use Rattle.uac_running.specs.Events.{after_one, after_jacks, after_jack, jacks_after_frame, next_frame}
+use Rattle.uac_device.specs.declared.jacks.Jack.{Jack}
+use Rattle.uac_device.specs.Jacks.{after_one, next_frame}
+use Rattle.uac_running.specs.Events.{after_jacks, after_jack, jacks_after_frame}
 use Rattle.uac_running.specs.RunningWorld.{jack_with_tone}
 use Rattle.uac_device.proofs.DeviceKeptLemmas.{all_changed}
 use Rattle.uac_device.proofs.ListChangeLemmas.{IsTurnedBelow, untouched}
@@ -29,7 +30,7 @@ given_more clock jacks i d w below =
     ∙ elim (cases_Bool (p (get_or jacks i d))) [ inl same ↦ rw same refl | inr other ↦ rw other refl ]
 
 -- whatever says nothing of tone and place stays
-kept_after : (P : ℕ → ℕ → Type 0) (clock : ℕ) (j : Jack) → P j.terminal j.channels → P (after_one clock j).terminal (after_one clock j).channels
+pub kept_after : (P : ℕ → ℕ → Type 0) (clock : ℕ) (j : Jack) → P j.terminal j.channels → P (after_one clock j).terminal (after_one clock j).channels
 kept_after P clock j holds = elim (cases_Bool (j.domain == clock)) [ inl same ↦ rw same holds | inr other ↦ rw other holds ]
 
 kept_toned : (P : ℕ → ℕ → Type 0) (terminal : ℕ) (tone : Tone) (j : Jack) → P j.terminal j.channels → P (jack_with_tone terminal tone j).terminal (jack_with_tone terminal tone j).channels

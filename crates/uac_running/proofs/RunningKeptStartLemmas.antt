@@ -28,7 +28,7 @@ use Rattle.uac_mixer.proofs.ReadingLemmas.{function_kept}
 use Rattle.uac_store.specs.StoreControls.{initial_controls}
 use Rattle.uac_topology.specs.Configuration.{configuration_of}
 use Rattle.uac_running.specs.declared.counts.TickCount.{TickCount}
-use Rattle.uac_running.specs.declared.jacks.Jack.{Jack}
+use Rattle.uac_device.specs.declared.jacks.Jack.{Jack}
 use Rattle.uac_running.specs.RunningKept.{HasItsDomains, HasItsJacks, RunningFields, RunningStandsBetween}
 use Rattle.uac_running.specs.TickCounts.{tick_count_of, none_counted}
 use Rattle.uac_running.specs.RunningWorld.{at_start, silent_jack}

@@ -15,7 +15,7 @@ use Rattle.uac_device.specs.DeviceKept as device
 use Rattle.uac_device.specs.DeviceWorld.{DeviceWorld, entity_in, input_of, is_input_jack, is_jack, is_streamed, set_jack, streamed_frame, after_tick}
 use Rattle.uac_device.specs.Stillness.{IsStill}
 use Rattle.uac_device.proofs.DeviceKeptLemmas.{all_changed}
-use Rattle.uac_running.specs.declared.jacks.Jack.{Jack}
+use Rattle.uac_device.specs.declared.jacks.Jack.{Jack}
 use Rattle.uac_running.specs.RunningWorld.{RunningWorld}
 use Rattle.uac_running.specs.Events.{after_one, after_all_jacks, after_jacks, after_jack, jacks_after_frame, next_frame, tick}
 use Rattle.uac_running.specs.Silence.{AreAtRest, GaveSilence, one_is_audible, is_audible}

@@ -29,7 +29,7 @@ packets_first marks r =
 abbrev told_with : RunningWorld → Telling StreamingWorld → Telling RunningWorld
 told_with r told = record { lines = told.lines; world = with_streaming r told.world }
 
-still_streams : (event : StreamingWorld → Telling StreamingWorld) (r : RunningWorld) → event (streaming_of r) ≡ streams.without_event (streaming_of r) → of_streams event r ≡ without_event r
+pub still_streams : (event : StreamingWorld → Telling StreamingWorld) (r : RunningWorld) → event (streaming_of r) ≡ streams.without_event (streaming_of r) → of_streams event r ≡ without_event r
 still_streams event r is = ap (told_with r) is
 
 still_told : (told : Telling RunningWorld) (p : RunningFields) (meters : List Reading) (r : RunningWorld) (old : Option (List ℕ)) → told ≡ without_event r → RunningStands p meters r

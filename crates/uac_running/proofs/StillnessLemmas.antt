@@ -11,7 +11,7 @@ use Rattle.uac_device.specs.InterfaceStreams.{NoneRuns}
 use Rattle.uac_device.specs.DeviceWorld.{DeviceWorld, is_input_jack, set_jack}
 use Rattle.uac_device.specs.Stillness.{IsStill}
 use Rattle.uac_device.proofs.StillnessLemmas.{still_after, still_given}
-use Rattle.uac_running.specs.declared.jacks.Jack.{Jack}
+use Rattle.uac_device.specs.declared.jacks.Jack.{Jack}
 use Rattle.uac_running.specs.RunningWorld.{RunningWorld}
 use Rattle.uac_running.specs.Events.{after_all_jacks, after_jacks, next_frame, tick}
 use Rattle.uac_running.specs.RunningKept.{HasItsJacks, RunningFields, RunningStands}

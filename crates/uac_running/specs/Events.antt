@@ -2,21 +2,17 @@
 -- 64 bits.
 use Rattle.std.specs.Prelude.{ℕ, zero, suc, ◌+◌, ◌==◌, nat_le, if◌then◌else◌, ℤ, List, [], ◌∷◌, ◌++◌, map, filter}
 use Rattle.std.specs.List.{fold}
-use Rattle.uac_pcm.specs.Tones.{tone_frame}
 use Rattle.uac_device.specs.DeviceWorld.{DeviceWorld, after_advance, next_ticks, renders_of, set_jack, after_tick, heard_of, after_frames}
 use Rattle.uac_units.specs.Hearing.{at_most_u64}
 use Rattle.uac_script.specs.Phrase.{PhraseMark}
 use Rattle.uac_transcript.specs.Transcript.{Said, says_microframe}
-use Rattle.uac_running.specs.declared.jacks.Jack.{Jack}
+use Rattle.uac_device.specs.declared.jacks.Jack.{Jack}
+pub use Rattle.uac_device.specs.Jacks.{after_one, next_frame}
 use Rattle.uac_streaming.specs.Telling.{Telling, telling_after, without_event}
 use Rattle.uac_streaming.specs.StreamingWorld.{StreamingWorld, all_feedback, all_ends, found_counts, found_lines, in_packets}
 use Rattle.uac_streaming.specs.StreamingWorld.{out_packets}
 use Rattle.uac_running.specs.RunningWorld.{RunningWorld, streaming_of, with_streaming}
 use Rattle.uac_running.specs.ReportLines.{played_lines}
-
--- the frame that a jack's tone gives next
-unfoldable pub next_frame : Jack → List ℤ
-next_frame j = tone_frame j.channels j.tone j.place
 
 -- a jack gives its tone's next frame, where it is of the domain
 abbrev pub after_jack : ℕ → Jack → DeviceWorld → DeviceWorld
@@ -29,10 +25,6 @@ after_jacks domain jacks w = fold (λ v j. set_jack j.terminal (next_frame j) v)
 -- the jacks of a domain are given their tones' next frames
 unfoldable pub after_all_jacks : ℕ → RunningWorld → DeviceWorld
 after_all_jacks domain r = after_jacks domain r.jacks r.device
-
--- a jack, and after one frame more where it is of the domain
-abbrev pub after_one : ℕ → Jack → Jack
-after_one domain j = if j.domain == domain then record j { place = at_most_u64 (j.place + 1) } else j
 
 -- of the jacks of a domain one more frame was given
 abbrev pub jacks_after_frame : ℕ → List Jack → List Jack

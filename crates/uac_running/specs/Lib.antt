@@ -6,7 +6,10 @@ pub mod RunningNames
 pub mod RunningLines
 pub mod RunningTransfers
 pub mod Events
+-- What the laws say besides.
+pub mod EventTicks
 -- What the contracts below them cite: steps of the code, no part of what is promised.
 pub mod TickCounts
 pub mod RunningKept
 pub mod Silence
+pub mod Quiet

@@ -6,7 +6,7 @@ use Rattle.uac_device.specs.DeviceKept as device
 use Rattle.uac_device.specs.DeviceWorld.{is_input_jack}
 use Rattle.uac_graph.specs.Meaning.{entity}
 use Rattle.uac_transcript.specs.Printing.{Prints}
-use Rattle.uac_running.specs.declared.jacks.Jack.{Jack}
+use Rattle.uac_device.specs.declared.jacks.Jack.{Jack}
 use Rattle.uac_running.specs.declared.counts.TickCount.{TickCount}
 use Rattle.uac_streaming.specs.StreamingKept as streaming
 use Rattle.uac_streaming.specs.StreamingKept.{StreamingFields}

@@ -15,7 +15,7 @@ use Rattle.uac_streaming.specs.StreamingWorld.{StreamingWorld, nothing_met}
 use Rattle.uac_mixer.specs.ViewWorld.{ViewWorld, known_view}
 use Rattle.uac_mixer.specs.declared.link.When.{When}
 use Rattle.uac_ring.specs.declared.counts.StreamCounts.{StreamCounts}
-use Rattle.uac_running.specs.declared.jacks.Jack.{Jack}
+use Rattle.uac_device.specs.declared.jacks.Jack.{Jack}
 
 -- the device, the host, the host's view of the device, and the bus, whose part all else is
 pub record RunningWorld : Type 0 where

@@ -7,7 +7,7 @@ use Rattle.uac_graph.specs.Wiring.{silence}
 use Rattle.uac_device.specs.DeviceWorld.{DeviceWorld}
 use Rattle.uac_script.specs.Phrase.{PhraseMark}
 use Rattle.uac_streaming.specs.StreamingWorld.{in_packets, out_packets}
-use Rattle.uac_running.specs.declared.jacks.Jack.{Jack}
+use Rattle.uac_device.specs.declared.jacks.Jack.{Jack}
 use Rattle.uac_running.specs.RunningWorld.{RunningWorld}
 use Rattle.uac_streaming.specs.Telling.{Telling}
 use Rattle.uac_running.specs.Events.{followed_by, of_streams}

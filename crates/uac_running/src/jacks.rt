@@ -6,26 +6,16 @@ ghost use Rattle.uac_device.specs.DeviceKept.{DeviceStands};
 ghost use Rattle.uac_device.specs.DeviceWorld.{DeviceWorld};
 ghost use Rattle.uac_device.specs.DeviceWorld as world;
 ghost use Rattle.uac_running.specs.Events.{after_one, after_jacks, after_jack, jacks_after_frame};
+ghost use Rattle.uac_running.specs.EventTicks.{jack_after, jacks_after};
 ghost use Rattle.uac_running.specs.RunningWorld as spec;
 ghost use Rattle.uac_running.specs.Silence as silence;
 ghost use Rattle.uac_running.specs.Silence.{AreAtRest};
 
 use std::alloc::Global;
 use uac_descriptor::NoMemory;
-use uac_device::{Device, is_input_jack};
+use uac_device::{Device, Jack, is_input_jack};
 use uac_entities::Entity;
 use uac_pcm::Tone;
-
-/// An input jack: its terminal's id, its clock domain and its channels, and the tone that it gives, of which so many frames were
-/// given since it was set; the count stands still at 18446744073709551615.
-#[derive(Clone, Copy, Debug, PartialEq, Eq)]
-pub struct Jack {
-    pub terminal: u8,
-    pub domain: u8,
-    pub channels: u8,
-    pub tone: Tone,
-    pub place: u64,
-}
 
 /// The input jacks among these entities, each silent.
 pub(crate) fn silent_jacks(alloc: Global, entities: &[Entity]) -> Result<Vec<Jack>, NoMemory>
@@ -105,27 +95,27 @@ pub(crate) fn next_frames(device: &mut Device, jacks: &mut [Jack], domain: u8, r
     ensures function { device.new.function ≡ device.old.function }
 {
     if rest {
-        pass_frames(jacks, domain);
+        pass_frames(jacks, domain, 1);
     } else {
         give_jacks(device, jacks, domain);
     }
 }
 
-/// The jacks of a domain gave one frame more.
-fn pass_frames(jacks: &mut [Jack], domain: u8)
-    ensures { jacks.new ≡ jacks_after_frame domain jacks.old }
+/// The jacks of a domain gave so many frames more.
+pub(crate) fn pass_frames(jacks: &mut [Jack], domain: u8, count: u32)
+    ensures { jacks.new ≡ jacks_after domain count jacks.old }
 {
     for passed in jacks.iter_mut() {
-        pass_frame(passed, domain);
+        pass_some(passed, domain, count);
     }
 }
 
-/// A jack of the domain gave one frame more.
-fn pass_frame(jack: &mut Jack, domain: u8)
-    ensures { jack.new ≡ after_one domain jack.old }
+/// A jack of the domain gave so many frames more.
+fn pass_some(jack: &mut Jack, domain: u8, count: u32)
+    ensures { jack.new ≡ jack_after domain count jack.old }
 {
     if jack.domain == domain {
-        jack.place = jack.place.saturating_add(1);
+        jack.place = jack.place.saturating_add(count.into());
     }
 }
 

@@ -10,6 +10,8 @@ mod report;
 
 /// The jacks' tones.
 mod jacks;
+/// A law of ticks.
+pub mod laws;
 /// The microframes of a running device.
 mod microframes;
 /// What a line of the script names: jacks, domains, streams, and the packets and reports of these.
@@ -20,7 +22,7 @@ mod running;
 mod transfers;
 
 pub use counts::TickCount;
-pub use jacks::Jack;
 pub use naming::{all_name_streams, are_frames, has_out};
 pub use running::Running;
+pub use uac_device::Jack;
 pub use uac_ring::StreamCounts;

@@ -1,10 +1,13 @@
 // The microframes of a running device: packets, ticks, and the ends of microframes.
-ghost use Rattle.std.specs.Prelude.{◌≡◌, ◌++◌, ℕ, List, ◌+◌, ◌<◌, nat_le, true, false, if◌then◌else◌, [], length, map, slice_index};
+ghost use Rattle.std.specs.Prelude.{◌≡◌, ◌++◌, ℕ, List, ◌+◌, ◌<◌, ◌≤◌, nat_le, true, false, if◌then◌else◌, [], IfSome, length, map, slice_index};
+ghost use Rattle.std.specs.List.{list_all};
+ghost use Rattle.uac_entities.specs.EntityInterfaces.{channels_of};
 ghost use Rattle.uac_units.specs.Fitting.{IsFitted};
 ghost use Rattle.uac_units.specs.Hearing.{Reading, at_most_u64};
 ghost use Rattle.uac_units.specs.MeterReadings.{readings};
 ghost use Rattle.uac_edges.specs.Faults.{HasCause};
 ghost use Rattle.uac_script.specs.Line.{phrase_mark};
+ghost use Rattle.uac_script.specs.Phrase.{PhraseMark};
 ghost use Rattle.uac_device.specs.DeviceKept as device;
 ghost use Rattle.uac_device.specs.DeviceWorld.{DeviceWorld, ZerosFitIn, after_advance, met_of, next_ticks};
 ghost use Rattle.uac_device.specs.Stillness.{IsStill};
@@ -15,19 +18,22 @@ ghost use Rattle.uac_running.specs.ReportLines.{played_lines};
 ghost use Rattle.uac_running.specs.Events.{after_all_jacks, domain_microframe, domain_microframes, ends_and_feedback, microframe};
 ghost use Rattle.uac_running.specs.Events.{microframes};
 ghost use Rattle.uac_running.specs.Events.{number_said, of_streams, packets_and_ticks, tick, tick_times};
+ghost use Rattle.uac_running.specs.EventTicks.{lines_after, met_after, running_after};
 ghost use Rattle.uac_running.specs.RunningKept.{RunningStands, RunningStandsBetween, RunningTells, RunningTellsBetween};
+ghost use Rattle.uac_running.specs.Quiet.{IsQuiet, Waits};
 ghost use Rattle.uac_running.specs.Silence.{AreAtRest, packets};
 ghost use Rattle.uac_running.specs.Silence as silence;
 
 use crate::counts::count_ticks;
-use crate::jacks::{next_frames, one_is_audible};
+use crate::jacks::{next_frames, one_is_audible, pass_frames};
 use crate::printing::write_jacks;
 use crate::running::Running;
 use uac_device::Ticked;
 use uac_edges::{Failed, Sink};
-use uac_graph::laws::fresh_steps_have_room;
+use uac_graph::laws::{fresh_steps_have_room, fresh_steps_have_room_for_ticks};
 use uac_script::Mark;
 use uac_streaming::write_found;
+use uac_topology::Function;
 use uac_topology::laws::{functions_are_sound, interfaces_are_numbered};
 use uac_transcript::write_microframe;
 use uac_units::{Meter, Meters, Rack, Steps, Unit};
@@ -58,10 +64,114 @@ impl Running {
             (K.written sink.old) (K.written sink.new) result }
         ensures cause { HasCause (K.faults sink.old) (K.faults sink.new) result }
     {
+        if let Some(domain) = self.quiet_domain() {
+            self.quiet_microframes(count, domain, rack, meters);
+            return Ok(());
+        }
+        self.each_microframe(count, marks, rack, meters, sink)
+    }
+
+    /// Runs so many microframes, one after the other.
+    fn each_microframe<K: Sink>(
+        &mut self,
+        count: u32,
+        marks: &[Mark],
+        rack: &Rack,
+        meters: &mut Meters,
+        sink: &mut K,
+    ) -> Result<(), Failed>
+        requires rack { IsFitted (λ v x. (⟦<dyn Unit as Unit>⟧ v).kind_of x) rack.now }
+        ensures tells { (r : RunningWorld)
+            → RunningStandsBetween self.old (readings (λ v x. (⟦<dyn Meter as Meter>⟧ v).reading_of x) meters.old) r
+            → RunningTellsBetween (microframes (map phrase_mark marks.now) count r) self.new
+            (readings (λ v x. (⟦<dyn Meter as Meter>⟧ v).reading_of x) meters.new)
+            (K.written sink.old) (K.written sink.new) result }
+        ensures cause { HasCause (K.faults sink.old) (K.faults sink.new) result }
+    {
         for _passed in 0..count {
             self.microframe(marks, rack, meters, sink)?;
         }
         Ok(())
+    }
+
+    /// The only domain of a device that runs no stream, where no microframe says anything, at detail 0, and where its ticks are done faster
+    /// at once.
+    fn quiet_domain(&self) -> Option<u8>
+        ensures { (meters : List Reading) (r : RunningWorld) → RunningStands self.now meters r → IfSome result (λ domain. IsQuiet domain r) }
+    {
+        let function = self.device.function();
+        if self.detail >= 1 || self.device.runs() || !has_narrow_streams(function) {
+            return None;
+        }
+        match function.domains() {
+            [domain] => Some(*domain),
+            _ => None,
+        }
+    }
+
+    /// Runs so many microframes of a device of one domain that runs no stream, at detail 0. Clocks go on, and the ticks wait, so that many
+    /// are done at once; none waits at the end.
+    fn quiet_microframes(&mut self, count: u32, domain: u8, rack: &Rack, meters: &mut Meters)
+        requires rack { IsFitted (λ v x. (⟦<dyn Unit as Unit>⟧ v).kind_of x) rack.now }
+        ensures { (marks : List PhraseMark) (r : RunningWorld)
+            → RunningStandsBetween self.old (readings (λ v x. (⟦<dyn Meter as Meter>⟧ v).reading_of x) meters.old) r → IsQuiet domain r
+            → RunningStandsBetween self.new (readings (λ v x. (⟦<dyn Meter as Meter>⟧ v).reading_of x) meters.new)
+            (microframes marks count r).world }
+    {
+        functions_are_sound(self.device.function());
+        interfaces_are_numbered();
+        let mut waiting = 0;
+        for _passed in 0..count {
+            waiting = self.quiet_microframe(waiting, domain, rack, meters);
+        }
+        self.do_waiting(waiting, domain, rack, meters);
+    }
+
+    /// One microframe more of such a device, of which so many ticks wait. Answers how many wait then.
+    fn quiet_microframe(
+        &mut self,
+        waiting: u32,
+        domain: u8,
+        rack: &Rack,
+        meters: &mut Meters,
+    ) -> u32
+        requires rack { IsFitted (λ v x. (⟦<dyn Unit as Unit>⟧ v).kind_of x) rack.now }
+        requires few { waiting ≤ 128 }
+        ensures waits { (marks : List PhraseMark) (r : RunningWorld)
+            → Waits domain waiting self.old (readings (λ v x. (⟦<dyn Meter as Meter>⟧ v).reading_of x) meters.old) r
+            → Waits domain result self.new (readings (λ v x. (⟦<dyn Meter as Meter>⟧ v).reading_of x) meters.new) (microframe marks r).world }
+        ensures few { result ≤ 128 }
+    {
+        let left = self.make_room(waiting, domain, rack, meters);
+        self.pass();
+        left + self.advance(domain)
+    }
+
+    /// Does the ticks that wait where those of a microframe more might be too many. Answers how many wait then.
+    fn make_room(&mut self, waiting: u32, domain: u8, rack: &Rack, meters: &mut Meters) -> u32
+        requires rack { IsFitted (λ v x. (⟦<dyn Unit as Unit>⟧ v).kind_of x) rack.now }
+        requires few { waiting ≤ 128 }
+        ensures waits { (r : RunningWorld) → Waits domain waiting self.old (readings (λ v x. (⟦<dyn Meter as Meter>⟧ v).reading_of x) meters.old) r
+            → Waits domain result self.new (readings (λ v x. (⟦<dyn Meter as Meter>⟧ v).reading_of x) meters.new) r }
+        ensures room { result ≤ 101 }
+    {
+        if waiting <= 101 {
+            return waiting;
+        }
+        self.do_waiting(waiting, domain, rack, meters);
+        0
+    }
+
+    /// Does the ticks that wait.
+    fn do_waiting(&mut self, waiting: u32, domain: u8, rack: &Rack, meters: &mut Meters)
+        requires rack { IsFitted (λ v x. (⟦<dyn Unit as Unit>⟧ v).kind_of x) rack.now }
+        requires few { waiting ≤ 128 }
+        ensures { (r : RunningWorld) → Waits domain waiting self.old (readings (λ v x. (⟦<dyn Meter as Meter>⟧ v).reading_of x) meters.old) r
+            → RunningStands self.new (readings (λ v x. (⟦<dyn Meter as Meter>⟧ v).reading_of x) meters.new) r }
+    {
+        if waiting > 0 {
+            self.tick_rows(waiting, domain, rack, meters);
+        }
     }
 
     /// One microframe.
@@ -258,6 +368,7 @@ impl Running {
         ensures stands { (meters : List Reading) (r : RunningWorld) → RunningStands self.old meters r
             → RunningStands self.new meters (record r { device = after_advance domain r.device }) }
         ensures ticks { (meters : List Reading) (r : RunningWorld) → RunningStands self.old meters r → result ≡ next_ticks domain r.device }
+        ensures few { result ≤ 27 }
         ensures function { self.new.device.function ≡ self.old.device.function }
     {
         let ticks = self.device.ticks(domain);
@@ -265,9 +376,65 @@ impl Running {
         ticks
     }
 
-    /// Does so many ticks of a domain. Where its jacks are silent they rest from the second tick on, and so do its streams where none
-    /// runs.
+    /// Does so many ticks of a domain: at once, or one after the other.
     fn ticks<K: Sink>(
+        &mut self,
+        count: u32,
+        domain: u8,
+        rack: &Rack,
+        meters: &mut Meters,
+        sink: &mut K,
+    ) -> Result<(), Failed>
+        requires rack { IsFitted (λ v x. (⟦<dyn Unit as Unit>⟧ v).kind_of x) rack.now }
+        ensures tells { (r : RunningWorld) → RunningStands self.old (readings (λ v x. (⟦<dyn Meter as Meter>⟧ v).reading_of x) meters.old) r
+            → RunningTells (tick_times count domain r) self.new (readings (λ v x. (⟦<dyn Meter as Meter>⟧ v).reading_of x) meters.new)
+            (K.written sink.old) (K.written sink.new) result }
+        ensures cause { HasCause (K.faults sink.old) (K.faults sink.new) result }
+        ensures function { self.new.device.function ≡ self.old.device.function }
+    {
+        if has_narrow_streams(self.device.function()) && self.says_nothing(count, domain) {
+            self.tick_rows(count, domain, rack, meters);
+            return Ok(());
+        }
+        self.tick_each(count, domain, rack, meters, sink)
+    }
+
+    /// Whether so many ticks of a domain say nothing and are done at once: at detail 0, where no ring is found empty or full. Fewer than
+    /// six are done as fast one after the other.
+    fn says_nothing(&self, count: u32, domain: u8) -> bool
+        ensures some { result ≡ true → 6 ≤ count }
+        ensures most { result ≡ true → count ≤ 128 }
+        ensures nothing { (meters : List Reading) (r : RunningWorld) → RunningStands self.now meters r → result ≡ true
+            → lines_after domain count r ≡ [] }
+        ensures met { (meters : List Reading) (r : RunningWorld) → RunningStands self.now meters r → result ≡ true
+            → met_after domain count r ≡ r.met }
+    {
+        self.detail == 0 && count >= 6 && count <= 128 && self.device.goes_on(domain, count)
+    }
+
+    /// So many ticks of a domain at once: its jacks give their next frames, the device ticks, and the meters hear its output jacks. The
+    /// renders are counted.
+    fn tick_rows(&mut self, count: u32, domain: u8, rack: &Rack, meters: &mut Meters)
+        requires rack { IsFitted (λ v x. (⟦<dyn Unit as Unit>⟧ v).kind_of x) rack.now }
+        requires some { 1 ≤ count }
+        requires most { count ≤ 128 }
+        ensures stands { (r : RunningWorld)
+            → RunningStands self.old (readings (λ v x. (⟦<dyn Meter as Meter>⟧ v).reading_of x) meters.old) r
+            → met_after domain count r ≡ r.met
+            → RunningStands self.new (readings (λ v x. (⟦<dyn Meter as Meter>⟧ v).reading_of x) meters.new) (running_after domain count r) }
+        ensures function { self.new.device.function ≡ self.old.device.function }
+    {
+        fresh_steps_have_room_for_ticks(self.device.function());
+        let mut steps = Steps::new();
+        self.device
+            .tick_rows(domain, count, &self.jacks, rack, meters, &mut steps);
+        pass_frames(&mut self.jacks, domain, count);
+        self.renders = self.renders.saturating_add(steps.count());
+    }
+
+    /// Does so many ticks of a domain, one after the other. Where its jacks are silent they rest from the second tick on, and so do its
+    /// streams where none runs.
+    fn tick_each<K: Sink>(
         &mut self,
         count: u32,
         domain: u8,
@@ -373,4 +540,14 @@ impl Running {
         }
         Ok(())
     }
+}
+
+/// Whether no stream has more than two channels. A few frames of more are moved faster one by one than channel by channel.
+fn has_narrow_streams(function: &Function) -> bool
+    ensures { result ≡ list_all (λ s. nat_le (channels_of function.now.entities s.terminal) 2) function.now.streams }
+{
+    function
+        .streams()
+        .iter()
+        .all(|stream| function.channels_of(stream.terminal) <= 2)
 }

@@ -7,8 +7,8 @@ ghost use Rattle.uac_running.specs.RunningKept.{RunningStandsBetween};
 ghost use Rattle.uac_running.specs.RunningNames as spec;
 ghost use Rattle.uac_running.specs.RunningWorld.{RunningWorld};
 
-use crate::jacks::Jack;
 use crate::running::Running;
+use uac_device::Jack;
 use uac_script::{Mark, MarkKind};
 use uac_topology::laws::{entities_have_channels, functions_are_sound};
 use uac_topology::{Function, StreamInterface};

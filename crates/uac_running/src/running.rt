@@ -20,12 +20,12 @@ ghost use Rattle.uac_streaming.specs.StreamingKept as streams;
 ghost use Rattle.uac_streaming.specs.StreamingWorld.{streaming_start};
 
 use crate::counts::{TickCount, no_ticks};
-use crate::jacks::{Jack, set_tone, silent_jacks};
+use crate::jacks::{set_tone, silent_jacks};
 use crate::report::{write_head, write_rest};
 use std::alloc::Global;
 use std::marker::Model;
 use uac_descriptor::{ByteList, NoMemory};
-use uac_device::Device;
+use uac_device::{Device, Jack};
 use uac_edges::{Failed, Sink};
 use uac_mixer::{View, When, fresh_viewed};
 use uac_pcm::Tone;

@@ -1,9 +1,9 @@
 -- What a meter's value is bounded by.
-use Rattle.std.proofs.Common.{◌≡◌, arith, ℕ, ◌+◌, ◌^◌, ◌<◌, ◌≤◌, if◌then◌else◌, max, ℤ, pos, List, [], ◌∷◌, count_by, get_or, length, unsigned_abs}
+use Rattle.std.proofs.Common.{◌≡◌, ap, arith, ℕ, ◌+◌, ◌^◌, ◌<◌, ◌≤◌, if◌then◌else◌, max, ℤ, pos, List, [], ◌∷◌, count_by, get_or, length, unsigned_abs}
 use Rattle.std.specs.List.{sum_by}
 use Rattle.uac_units.specs.declared.meter.MeterKind.{MeterKind}
 use Rattle.uac_units.specs.declared.meter.MeterKind.TheVariants.{Peak, Clipped, Sum}
-use Rattle.uac_units.specs.Hearing.{value_after_hearing, is_clipped, peak_of}
+use Rattle.uac_units.specs.Hearing.{Reading, after_hearing, value_after_hearing, is_clipped, peak_of}
 
 pub value_after_hearing-rises : (kind : MeterKind) (value : ℕ) (frame : List ℤ) → value < 2 ^ 64 → value ≤ value_after_hearing kind value frame
 value_after_hearing-rises Peak value frame h = omega arith
@@ -14,6 +14,18 @@ pub value_after_hearing-fits : (kind : MeterKind) (value : ℕ) (frame : List �
 value_after_hearing-fits Peak value frame = omega arith
 value_after_hearing-fits Clipped value frame = omega arith
 value_after_hearing-fits Sum value frame = omega arith
+
+-- frames may be heard in any order
+value-commutes : (kind : MeterKind) (value : ℕ) (frame other : List ℤ)
+    → value_after_hearing kind (value_after_hearing kind value other) frame ≡ value_after_hearing kind (value_after_hearing kind value frame) other
+value-commutes Peak value frame other = omega arith
+value-commutes Clipped value frame other = omega arith
+value-commutes Sum value frame other = omega arith
+
+pub after_hearing-commutes : (frame other : List ℤ) (reading : Reading) → after_hearing frame (after_hearing other reading) ≡ after_hearing other (after_hearing frame reading)
+unfolding after_hearing
+after_hearing-commutes frame other reading =
+    ap (λ (v : ℕ). record { kind = reading.kind; value = v }) (value-commutes reading.kind reading.value frame other)
 
 -- ---- frames of two samples
 

@@ -6,3 +6,4 @@ pub mod RenderingLemmas
 pub mod HearingLemmas
 pub mod Worked
 pub mod RenderingWriteLemmas
+pub mod SampleRowsLemmas

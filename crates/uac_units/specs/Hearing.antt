@@ -1,5 +1,5 @@
 -- What meters make of the frames they hear (profile).
-use Rattle.std.specs.Prelude.{ℕ, ◌+◌, ◌-◌, ◌^◌, min, max, Bool, ◌||◌, ℤ, pos, negsuc, List, unsigned_abs, count_by}
+use Rattle.std.specs.Prelude.{ℕ, ◌+◌, max, Bool, ◌||◌, ℤ, pos, negsuc, List, unsigned_abs, count_by}
 use Rattle.std.specs.List.{fold, sum_by}
 use Rattle.std.specs.Ordering.{int_eq}
 use Rattle.uac_units.specs.declared.meter.MeterKind.{MeterKind}

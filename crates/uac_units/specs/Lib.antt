@@ -5,5 +5,6 @@ pub mod Hearing
 pub mod MeterReadings
 pub mod Rendering
 -- What the contracts below them cite: steps of the code, no part of what is promised.
+pub mod SampleRows
 pub mod SampleLanes
 pub mod Unity

@@ -2,7 +2,7 @@
 
 ghost use Rattle.std.specs.Prelude.{◌≡◌, ℕ, ◌+◌, ◌^◌, ◌<◌, ◌≤◌, ℤ, pos, List, [], length, slice_index_or};
 ghost use Rattle.std.specs.List.{All};
-ghost use Rattle.uac_units.specs.Hearing.{value_after_hearing};
+ghost use Rattle.uac_units.specs.Hearing.{Reading, after_hearing, value_after_hearing};
 ghost use Rattle.uac_units.specs.Rendering.{by_frames, in_a_row, pins_sample, job_samples, set_by, unit_sample};
 ghost use Rattle.uac_units.specs.declared.meter.MeterKind.{MeterKind};
 ghost use Rattle.uac_units.specs.declared.jobs.Job.{Job};
@@ -33,4 +33,10 @@ pub fn pins_are_the_sources()
 pub fn meters_never_fall()
     ensures rises { (kind : MeterKind) (value : ℕ) (frame : List ℤ) → value < 2 ^ 64 → value ≤ value_after_hearing kind value frame }
     ensures fits { (kind : MeterKind) (value : ℕ) (frame : List ℤ) → value_after_hearing kind value frame < 2 ^ 64 }
+{}
+
+/// A meter shows the same whichever of two frames it hears first.
+pub fn frames_are_heard_in_any_order()
+    ensures { (frame other : List ℤ) (reading : Reading)
+        → after_hearing frame (after_hearing other reading) ≡ after_hearing other (after_hearing frame reading) }
 {}

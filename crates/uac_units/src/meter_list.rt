@@ -1,10 +1,12 @@
 // All meters together.
 
-ghost use Rattle.std.specs.Prelude.{◌≡◌, ◌<◌, length, map, slice_get, Some};
+ghost use Rattle.std.specs.Prelude.{◌≡◌, ◌<◌, ◌≤◌, length, map, slice_get, Some};
 ghost use Rattle.uac_units.specs.Hearing.{after_hearing};
 ghost use Rattle.uac_units.specs.MeterReadings.{readings, readings_of};
+ghost use Rattle.uac_units.specs.SampleRows.{HaveTicks, after_hearing_all, frames_of};
 
 use crate::meter::{Meter, MeterKind};
+use crate::row::Row;
 use uac_pcm::Frame;
 
 /// The meters that hear what a device plays, in a fixed order.
@@ -57,6 +59,19 @@ impl Meters {
             hear_one(&mut list[at], frame);
         }
     }
+
+    /// Lets every meter hear the frames of so many ticks, one after the other.
+    pub fn hear_rows(&mut self, ticks: usize, rows: &[Row])
+        requires few { length rows.now ≤ 32 }
+        requires given { HaveTicks ticks rows.now }
+        ensures { readings (λ v x. (⟦<dyn Meter as Meter>⟧ v).reading_of x) self.new
+            ≡ map (after_hearing_all (frames_of ticks rows.now)) (readings (λ v x. (⟦<dyn Meter as Meter>⟧ v).reading_of x) self.old) }
+    {
+        let list = self.list.as_mut_slice();
+        for at in 0..list.len() {
+            hear_rows_by_one(&mut list[at], ticks, rows);
+        }
+    }
 }
 
 /// The kind of one meter.
@@ -79,4 +94,14 @@ fn hear_one(meter: &mut Box<dyn Meter>, frame: &Frame)
         ≡ after_hearing frame.now.items ((⟦<dyn Meter as Meter>⟧ meter.old.vtable).reading_of meter.old.value) }
 {
     meter.hear(frame);
+}
+
+/// Lets one meter hear the frames of so many ticks.
+fn hear_rows_by_one(meter: &mut Box<dyn Meter>, ticks: usize, rows: &[Row])
+    requires few { length rows.now ≤ 32 }
+    requires given { HaveTicks ticks rows.now }
+    ensures { (⟦<dyn Meter as Meter>⟧ meter.new.vtable).reading_of meter.new.value
+        ≡ after_hearing_all (frames_of ticks rows.now) ((⟦<dyn Meter as Meter>⟧ meter.old.vtable).reading_of meter.old.value) }
+{
+    meter.hear_rows(ticks, rows);
 }

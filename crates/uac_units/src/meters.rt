@@ -1,12 +1,14 @@
 // The three meters.
 
-ghost use Rattle.std.specs.Prelude.{◌≡◌, ◌≤◌, ◌<◌, if◌then◌else◌, unsigned_abs, count_by, length, slice_index_or, pos};
+ghost use Rattle.std.specs.Prelude.{◌≡◌, ◌+◌, ◌≤◌, ◌<◌, if◌then◌else◌, unsigned_abs, count_by, length, slice_index_or, pos};
 ghost use Rattle.std.specs.List.{sum_by};
 ghost use Rattle.uac_units.specs.Hearing as spec;
 ghost use Rattle.uac_units.specs.Hearing.{after_hearing, is_clipped};
+ghost use Rattle.uac_units.specs.SampleRows.{HaveTicks, frame_at};
 ghost use Rattle.uac_units.specs.declared.meter.MeterKind.TheVariants.{Peak, Clipped, Sum};
 
 use crate::meter::{Meter, MeterKind};
+use crate::row::Row;
 use uac_pcm::Frame;
 
 /// Keeps the greatest absolute sample that it heard.
@@ -79,6 +81,12 @@ impl Meter for PeakMeter {
             _ => self.value = self.value.max(peak_of(samples) as u64),
         }
     }
+
+    fn hear_rows(&mut self, ticks: usize, rows: &[Row]) {
+        for tick in 0..ticks {
+            self.value = self.value.max(peak_at(rows, tick) as u64);
+        }
+    }
 }
 
 impl Meter for ClippedMeter {
@@ -105,6 +113,12 @@ impl Meter for ClippedMeter {
             _ => self.value = self.value.saturating_add(clipped_among(samples) as u64),
         }
     }
+
+    fn hear_rows(&mut self, ticks: usize, rows: &[Row]) {
+        for tick in 0..ticks {
+            self.value = self.value.saturating_add(clipped_at(rows, tick) as u64);
+        }
+    }
 }
 
 impl Meter for SumMeter {
@@ -129,6 +143,12 @@ impl Meter for SumMeter {
                 self.value = self.value.saturating_add(left + right);
             }
             _ => self.value = self.value.saturating_add(sum_of(samples)),
+        }
+    }
+
+    fn hear_rows(&mut self, ticks: usize, rows: &[Row]) {
+        for tick in 0..ticks {
+            self.value = self.value.saturating_add(sum_at(rows, tick));
         }
     }
 }
@@ -193,4 +213,45 @@ fn clips_at(samples: &[i32], at: usize) -> u32
     } else {
         0
     }
+}
+
+// The greatest absolute sample of the frame at a tick.
+fn peak_at(rows: &[Row], tick: usize) -> u32
+    requires { HaveTicks (tick + 1) rows.now }
+    ensures { result ≡ spec.peak_of (frame_at tick rows.now) }
+{
+    let mut peak = 0;
+    for row in rows {
+        peak = peak.max(row.sample(tick).unsigned_abs());
+    }
+    peak
+}
+
+// How many samples of the frame at a tick stand at full scale.
+fn clipped_at(rows: &[Row], tick: usize) -> u32
+    requires few { length rows.now ≤ 32 }
+    requires given { HaveTicks (tick + 1) rows.now }
+    ensures { result ≡ count_by is_clipped (frame_at tick rows.now) }
+{
+    let mut clipped = 0;
+    for row in rows {
+        let sample = row.sample(tick);
+        if sample == i32::MAX || sample == i32::MIN {
+            clipped += 1;
+        }
+    }
+    clipped
+}
+
+// The absolute samples of the frame at a tick together.
+fn sum_at(rows: &[Row], tick: usize) -> u64
+    requires few { length rows.now ≤ 32 }
+    requires given { HaveTicks (tick + 1) rows.now }
+    ensures { result ≡ sum_by unsigned_abs (frame_at tick rows.now) }
+{
+    let mut sum = 0;
+    for row in rows {
+        sum += row.sample(tick).unsigned_abs() as u64;
+    }
+    sum
 }

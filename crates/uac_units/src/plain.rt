@@ -8,6 +8,8 @@ ghost use Rattle.uac_units.specs.Unity.{HasUnity};
 
 use crate::channels::fit;
 use crate::jobs::{Job, Pins, UnitKind};
+use crate::plain_rows::render_rows_as;
+use crate::row::Row;
 use crate::steps::Steps;
 use crate::unit::Unit;
 use uac_gain::laws::{scaling_keeps_the_sign, unity_changes_nothing};
@@ -43,6 +45,17 @@ impl Unit for PlainMixer {
     fn render(&self, job: &Job, pins: &Pins, out: &mut Frame, steps: &mut Steps) {
         render_as(UnitKind::Mixer, job, pins, out, steps);
     }
+
+    fn render_rows(
+        &self,
+        job: &Job,
+        ticks: usize,
+        inputs: &[Row],
+        out: &mut [Row],
+        steps: &mut Steps,
+    ) {
+        render_rows_as(UnitKind::Mixer, job, ticks, inputs, out, steps);
+    }
 }
 
 impl Unit for PlainSelector {
@@ -54,6 +67,17 @@ impl Unit for PlainSelector {
 
     fn render(&self, job: &Job, pins: &Pins, out: &mut Frame, steps: &mut Steps) {
         render_as(UnitKind::Selector, job, pins, out, steps);
+    }
+
+    fn render_rows(
+        &self,
+        job: &Job,
+        ticks: usize,
+        inputs: &[Row],
+        out: &mut [Row],
+        steps: &mut Steps,
+    ) {
+        render_rows_as(UnitKind::Selector, job, ticks, inputs, out, steps);
     }
 }
 
@@ -67,6 +91,17 @@ impl Unit for PlainFeature {
     fn render(&self, job: &Job, pins: &Pins, out: &mut Frame, steps: &mut Steps) {
         render_as(UnitKind::Feature, job, pins, out, steps);
     }
+
+    fn render_rows(
+        &self,
+        job: &Job,
+        ticks: usize,
+        inputs: &[Row],
+        out: &mut [Row],
+        steps: &mut Steps,
+    ) {
+        render_rows_as(UnitKind::Feature, job, ticks, inputs, out, steps);
+    }
 }
 
 impl Unit for PlainEffect {
@@ -78,6 +113,17 @@ impl Unit for PlainEffect {
 
     fn render(&self, job: &Job, pins: &Pins, out: &mut Frame, steps: &mut Steps) {
         render_as(UnitKind::Effect, job, pins, out, steps);
+    }
+
+    fn render_rows(
+        &self,
+        job: &Job,
+        ticks: usize,
+        inputs: &[Row],
+        out: &mut [Row],
+        steps: &mut Steps,
+    ) {
+        render_rows_as(UnitKind::Effect, job, ticks, inputs, out, steps);
     }
 }
 

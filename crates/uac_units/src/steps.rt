@@ -32,6 +32,14 @@ impl Steps {
         self.count += 1;
     }
 
+    /// Counts so many renders.
+    pub fn add(&mut self, renders: usize)
+        requires { self.old + renders < 2 ^ 64 }
+        ensures { self.new ≡ self.old + renders }
+    {
+        self.count += renders as u64;
+    }
+
     /// The renders counted so far.
     pub fn count(&self) -> u64
         ensures { result ≡ self.now }

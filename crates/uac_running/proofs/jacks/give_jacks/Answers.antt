@@ -3,7 +3,7 @@ use Rattle.std.specs.List.{All}
 use Rattle.uac_topology.specs.Function.{FunctionFields}
 use Rattle.uac_graph.specs.Meaning.{entity}
 use Rattle.uac_device.specs.DeviceWorld.{is_input_jack}
-use Rattle.uac_running.specs.declared.jacks.Jack.{Jack}
+use Rattle.uac_device.specs.declared.jacks.Jack.{Jack}
 use Rattle.uac_running.specs.Events.{after_one}
 use Rattle.uac_device.proofs.ListChangeLemmas.{turned_all, turned_more, untouched_holds}
 use Rattle.uac_running.proofs.RunningKeptJackLemmas.{gives_next}

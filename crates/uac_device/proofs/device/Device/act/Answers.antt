@@ -66,6 +66,8 @@ invariant_of-self c = (
   c.self.invariant.1,
   follows c.self.inside.function c.self.inside.store c.answer-answer.new.store c.self.inside.settings c.answer-answer.new.settings c.args.setup.now c.args.sent.now
       c.self.inside.derived c.follow.new.self c.answer-answer.ensures.held c.self.invariant.2 c.follow.ensures,
+  c.self.invariant.3,
+  c.self.invariant.4,
 )
 
 pub invariant_of-self-else-holds_setting : goal.invariant_of-self-else-holds_setting
@@ -82,4 +84,6 @@ invariant_of-self-else-holds_setting c = (
   c.self.invariant.1,
   follows c.self.inside.function c.self.inside.store c.answer-answer.new.store c.self.inside.settings c.answer-answer.new.settings c.args.setup.now c.args.sent.now
       c.self.inside.derived c.follow.new.self c.answer-answer.ensures.held c.self.invariant.2 c.follow.ensures,
+  c.self.invariant.3,
+  c.self.invariant.4,
 )

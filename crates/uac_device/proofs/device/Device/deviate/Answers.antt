@@ -35,6 +35,8 @@ invariant_of-self c =
       },
       c.self.invariant.1,
       c.self.invariant.2,
+      c.self.invariant.3,
+      c.self.invariant.4,
     )
 
 pub returns-clause-stands : goal.returns-clause-stands

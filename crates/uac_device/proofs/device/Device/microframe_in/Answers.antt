@@ -6,7 +6,7 @@ use Rattle.uac_device.proofs.DeviceKeptStreamLemmas.{device_with_streams, sent_s
 use Rattle.uac_device.proofs.device.Device.microframe_in.Goals as goal
 
 pub invariant_of-self : goal.invariant_of-self
-invariant_of-self c = (device_with_streams (the_view c.self.inside) c.send_in.new.self c.self.invariant.0 c.send_in.ensures.ports, c.self.invariant.1, c.self.invariant.2)
+invariant_of-self c = (device_with_streams (the_view c.self.inside) c.send_in.new.self c.self.invariant.0 c.send_in.ensures.ports, c.self.invariant.1, c.self.invariant.2, c.self.invariant.3, c.self.invariant.4)
 
 pub returns-clause-stands : goal.returns-clause-stands
 returns-clause-stands c w stands =

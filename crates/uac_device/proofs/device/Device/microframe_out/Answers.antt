@@ -7,7 +7,7 @@ use Rattle.uac_device.proofs.DeviceKeptStreamLemmas.{device_with_streams, receiv
 use Rattle.uac_device.proofs.device.Device.microframe_out.Goals as goal
 
 pub invariant_of-self : goal.invariant_of-self
-invariant_of-self c = (device_with_streams (the_view c.self.inside) c.receive.new.self c.self.invariant.0 c.receive.ensures.ports, c.self.invariant.1, c.self.invariant.2)
+invariant_of-self c = (device_with_streams (the_view c.self.inside) c.receive.new.self c.self.invariant.0 c.receive.ensures.ports, c.self.invariant.1, c.self.invariant.2, c.self.invariant.3, c.self.invariant.4)
 
 pub returns-clause-stands : goal.returns-clause-stands
 returns-clause-stands c w stands =

@@ -24,6 +24,8 @@ invariant_of-result c =
       },
       c.in_ok-parts.ensures.graph,
       c.in_ok-parts.ensures.derived,
+      c.in_ok-parts.ensures.rows,
+      c.in_ok-parts.ensures.room,
     )
 
 pub returns : goal.returns

@@ -54,6 +54,8 @@ invariant_of-self g c = (
       (subst (λ (graph : List Entity). AreWiresOf graph c.tick_by.new.wires) c.self.invariant.1 c.tick_by.ensures.fitting) (c.put_unless.ensures.ports ∙ c.begin_unless-met.ensures.ports),
   c.self.invariant.1,
   c.self.invariant.2,
+  c.self.invariant.3,
+  c.self.invariant.4,
 )
 
 pub returns-clause-stands : goal.returns-clause-stands

@@ -6,7 +6,7 @@ use Rattle.uac_running.specs.RunningKept.{RunningStandsBetween}
 use Rattle.uac_running.proofs.TellingLemmas.{begun, finished, one_more, stopped}
 use Rattle.uac_running.proofs.EventsLemmas.{microframes_end, microframes_split}
 use Rattle.uac_transcript.proofs.PrintingLemmas.{Tells-handed_on}
-use Rattle.uac_running.proofs.running.Running.microframes.Goals as goal
+use Rattle.uac_running.proofs.running.Running.each_microframe.Goals as goal
 
 pub loop-passed-init : goal.loop-passed-init
 loop-passed-init g c = record {

@@ -5,7 +5,7 @@ use Rattle.uac_running.specs.RunningWorld.{RunningWorld}
 use Rattle.uac_running.specs.Events.{microframes}
 use Rattle.uac_running.specs.RunningKept.{RunningStandsBetween}
 use Rattle.uac_running.proofs.TellingLemmas.{SoFar}
-use Rattle.uac_running.proofs.running.Running.microframes.Given as goal
+use Rattle.uac_running.proofs.running.Running.each_microframe.Given as goal
 
 abbrev pub invariant-loop-passed : goal.invariant-loop-passed
 invariant-loop-passed g l = record {

@@ -1,54 +1,18 @@
-use Rattle.std.proofs.Common.{◌∙◌, ap, arith, rules, ◌+◌, ◌-◌, refl, false, not, subst, sym}
+use Rattle.std.proofs.Common.{arith}
 use Rattle.uac_units.specs.MeterReadings.{readings}
-use Rattle.uac_running.specs.Events.{tick, tick_times}
-use Rattle.uac_running.specs.RunningKept.{RunningFields, RunningStands}
-use Rattle.uac_running.proofs.TellingLemmas.{begun, finished, one_more_to, stopped}
-use Rattle.uac_running.proofs.SilenceLemmas.{RestsSo, after_one_tick, begun_to_tick}
-use Rattle.uac_running.proofs.EventsLemmas.{ticks_end, ticks_split}
-use Rattle.uac_transcript.proofs.PrintingLemmas.{Tells-handed_on}
+use Rattle.uac_running.proofs.EventRowsLemmas.{rows_told}
 use Rattle.uac_running.proofs.running.Running.ticks.Goals as goal
 
-pub loop-ticked-init : goal.loop-ticked-init
-loop-ticked-init g c = record {
-  told = λ r stands.
-      begun (RestsSo (not c.one_is_audible-silent.result) (not c.runs-still.result) false false c.args.domain) (tick_times c.args.count c.args.domain r) (tick_times (c.args.count - 0) c.args.domain) c.args.self.now (readings (λ v x. (goal.Meter-dyn g (v, x)).reading_of x) c.args.meters.now) (g.K.Sink.written c.args.sink.now) r
-      (begun_to_tick c.one_is_audible-silent.result c.runs-still.result c.args.domain c.args.self.now c.deref.result.now (readings (λ v x. (goal.Meter-dyn g (v, x)).reading_of x) c.args.meters.now) r stands c.one_is_audible-silent.ensures (c.deref.ensures.value ∙ ap (λ (p : RunningFields). p.jacks) c.self.view_is)
-      (c.runs-still.ensures.none r.device (subst (λ (p : RunningFields). RunningStands p (readings (λ v x. (goal.Meter-dyn g (v, x)).reading_of x) c.args.meters.now) r) (sym c.self.view_is) stands).streaming.device))
-      (ap (λ n. tick_times n c.args.domain r) (omega arith));
-  faultless = refl;
-  function = search rules;
-}
+pub tick_rows-requires-clause-some : goal.tick_rows-requires-clause-some
+tick_rows-requires-clause-some g c = omega (arith, c.says_nothing.ensures.some c.if-says_nothing.true)
 
-pub returns-in_err-tick-clause-tells : goal.returns-in_err-tick-clause-tells
-returns-in_err-tick-clause-tells g c r stands =
-    Tells-handed_on _ _ (g.K.Sink.written c.args.sink.now) (g.K.Sink.written c.tick.new.sink) c.from_residual.result _ c.from_residual.ensures.1 (
-    stopped (RestsSo (not c.one_is_audible-silent.result) (not c.runs-still.result) c.loop-ticked.rest.jacks c.loop-ticked.rest.device_streams c.args.domain) (tick_times c.args.count c.args.domain r) (tick_times (c.args.count - c.loop-ticked._ticked) c.args.domain) (tick_times (c.args.count - (c.loop-ticked._ticked + 1)) c.args.domain)
-    (tick c.args.domain) c.loop-ticked.self (readings (λ v x. (goal.Meter-dyn g (v, x)).reading_of x) c.loop-ticked.meters)
-    (g.K.Sink.written c.args.sink.now) (g.K.Sink.written c.loop-ticked.sink) (g.K.Sink.written c.tick.new.sink)
-    (λ w. ticks_split c.args.count c.loop-ticked._ticked c.args.domain w c.loop-ticked-test.true) (c.loop-ticked.invariant.told r stands) (λ w s. c.in_err-tick.ensures.tells w s.now s.rests s.stills)
-    )
+pub tick_rows-requires-clause-most : goal.tick_rows-requires-clause-most
+tick_rows-requires-clause-most g c = c.says_nothing.ensures.most c.if-says_nothing.true
 
-pub loop-ticked-preserved : goal.loop-ticked-preserved
-loop-ticked-preserved g c = record {
-  told = λ r stands.
-      one_more_to (RestsSo (not c.one_is_audible-silent.result) (not c.runs-still.result) c.loop-ticked.rest.jacks c.loop-ticked.rest.device_streams c.args.domain) (RestsSo (not c.one_is_audible-silent.result) (not c.runs-still.result) (not c.one_is_audible-silent.result) (not c.runs-still.result) c.args.domain) (tick_times c.args.count c.args.domain r) (tick_times (c.args.count - c.loop-ticked._ticked) c.args.domain) (tick_times (c.args.count - (c.loop-ticked._ticked + 1)) c.args.domain)
-      (tick c.args.domain) c.loop-ticked.self c.tick.new.self (readings (λ v x. (goal.Meter-dyn g (v, x)).reading_of x) c.loop-ticked.meters) (readings (λ v x. (goal.Meter-dyn g (v, x)).reading_of x) c.tick.new.meters)
-      (g.K.Sink.written c.args.sink.now) (g.K.Sink.written c.loop-ticked.sink) (g.K.Sink.written c.tick.new.sink)
-      (λ w. ticks_split c.args.count c.loop-ticked._ticked c.args.domain w c.loop-ticked-test.true) (c.loop-ticked.invariant.told r stands)
-      (λ w s.
-      let t = c.in_ok-tick.ensures.tells w s.now s.rests s.stills in (
-        t.0,
-        after_one_tick (not c.one_is_audible-silent.result) (not c.runs-still.result) c.loop-ticked.rest.jacks c.loop-ticked.rest.device_streams c.args.domain c.loop-ticked.self c.tick.new.self (readings (λ v x. (goal.Meter-dyn g (v, x)).reading_of x) c.loop-ticked.meters)
-            (readings (λ v x. (goal.Meter-dyn g (v, x)).reading_of x) c.tick.new.meters) w s t.1
-            (c.tick.ensures.rests (readings (λ v x. (goal.Meter-dyn g (v, x)).reading_of x) c.loop-ticked.meters) w s.now),
-      ));
-  faultless = c.in_ok-tick.ensures.cause.faultless ∙ c.loop-ticked.invariant.faultless;
-  function = c.tick.ensures.function ∙ c.loop-ticked.invariant.function;
-}
-
-pub returns-clause-tells : goal.returns-clause-tells
-returns-clause-tells g c r stands =
-    let all = finished (RestsSo (not c.one_is_audible-silent.result) (not c.runs-still.result) c.loop-ticked.rest.jacks c.loop-ticked.rest.device_streams c.args.domain) (tick_times c.args.count c.args.domain r) (tick_times (c.args.count - c.loop-ticked._ticked) c.args.domain) c.loop-ticked.self
-    (readings (λ v x. (goal.Meter-dyn g (v, x)).reading_of x) c.loop-ticked.meters) (g.K.Sink.written c.args.sink.now) (g.K.Sink.written c.loop-ticked.sink)
-    (c.loop-ticked.invariant.told r stands) (λ w. ticks_end c.args.count c.loop-ticked._ticked c.args.domain w c.loop-ticked-test.false) in
-    (all.0, all.1.now)
+pub returns-then-says_nothing-clause-tells : goal.returns-then-says_nothing-clause-tells
+returns-then-says_nothing-clause-tells g c r stands =
+    let shown = readings (λ v x. (goal.Meter-dyn g (v, x)).reading_of x) c.args.meters.now in
+    let showing = readings (λ v x. (goal.Meter-dyn g (v, x)).reading_of x) c.tick_rows.new.meters in
+    rows_told c.args.domain c.args.count showing r c.tick_rows.new.self (g.K.Sink.written c.args.sink.now)
+    (c.says_nothing.ensures.nothing shown r stands c.if-says_nothing.true)
+    (c.tick_rows.ensures.stands r stands (c.says_nothing.ensures.met shown r stands c.if-says_nothing.true))

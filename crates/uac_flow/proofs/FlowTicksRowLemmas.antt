@@ -1,0 +1,59 @@
+-- Frames that are laid into rows, tick by tick.
+use Rattle.std.proofs.Common.{◌≡◌, ◌≢◌, ◌∙◌, sym, refl, ap, arith, ℕ, suc, ◌+◌, ◌<◌, ◌≤◌, ℤ, pos, List, [], length, get_or, replicate, min, inl, inr}
+use Rattle.std.proofs.lemmas.Bool.{cases_lt}
+use Rattle.uac_units.specs.SampleRows.{HaveTicks, frame_at, row_lengths}
+use Rattle.uac_ring.specs.Rings.{Holds}
+use Rattle.uac_flow.specs.FlowStreams.{OutStream}
+use Rattle.uac_flow.specs.FlowTicks.{given_at, ready_of}
+use Rattle.uac_flow.proofs.FlowTicksLemmas.{given_past, given_ready}
+use Rattle.uac_units.proofs.SampleRowsLemmas.{ticks_kept, ticks_less}
+
+-- from a tick on, up to another, the rows have these frames; at the others they have what they had
+pub record FramesAreLaid (from upto : ℕ) (frame : ℕ → List ℤ) (old new : List (List ℤ)) : Type 0 where
+  pub here : (tick : ℕ) → from ≤ tick → tick < upto → frame_at tick new ≡ frame tick
+  pub before : (tick : ℕ) → tick < from → frame_at tick new ≡ frame_at tick old
+  pub behind : (tick : ℕ) → upto ≤ tick → frame_at tick new ≡ frame_at tick old
+  pub lengths : row_lengths new ≡ row_lengths old
+
+pub laid_none : (from : ℕ) (frame : ℕ → List ℤ) (rows : List (List ℤ)) → FramesAreLaid from from frame rows rows
+laid_none from frame rows = record {
+  here = λ tick least less. absurd (omega (arith, least, less));
+  before = λ tick less. refl;
+  behind = λ tick least. refl;
+  lengths = refl;
+}
+
+pub laid_more : (from upto : ℕ) (frame : ℕ → List ℤ) (old now new : List (List ℤ)) → FramesAreLaid from upto frame old now → from ≤ upto
+    → frame_at upto new ≡ frame upto → ((other : ℕ) → other ≢ upto → frame_at other new ≡ frame_at other now) → row_lengths new ≡ row_lengths now
+    → FramesAreLaid from (upto + 1) frame old new
+laid_more from upto frame old now new laid order at others lengths = record {
+  here = here;
+  before = λ tick less. others tick (λ e. omega (arith, e, less, order)) ∙ laid.before tick less;
+  behind = λ tick least. others tick (λ e. omega (arith, e, least)) ∙ laid.behind tick (omega (arith, least));
+  lengths = lengths ∙ laid.lengths;
+}
+  where
+    here : (tick : ℕ) → from ≤ tick → tick < upto + 1 → frame_at tick new ≡ frame tick
+    here tick least less = elim (cases_lt tick upto) [
+      | inl below ↦ others tick (λ e. omega (arith, e, below)) ∙ laid.here tick least below
+      | inr past ↦
+          let e : tick ≡ upto = omega (arith, less, past) in
+          ap (λ (n : ℕ). frame_at n new) e ∙ at ∙ ap frame (sym e)
+    ]
+
+-- the next tick is there
+pub next_inside : (from upto ticks : ℕ) (frame : ℕ → List ℤ) (old now : List (List ℤ)) → FramesAreLaid from upto frame old now → upto < ticks
+    → HaveTicks ticks old → HaveTicks (upto + 1) now
+next_inside from upto ticks frame old now laid less inside =
+    ticks_less (upto + 1) ticks now (omega (arith, less)) (ticks_kept ticks old now laid.lengths inside)
+
+-- the frames of a stream and then silence are what it gives
+pub rows_given : (o : OutStream) (ring mid new : List (List ℤ)) (ticks taken channels : ℕ) → Holds o.arrived o.taken ring → taken ≡ min (ready_of o) ticks
+    → channels ≡ o.stream.channels → ((tick : ℕ) → tick < taken → frame_at tick mid ≡ get_or ring tick [])
+    → ((tick : ℕ) → tick < taken → frame_at tick new ≡ frame_at tick mid)
+    → ((tick : ℕ) → taken ≤ tick → tick < ticks → frame_at tick new ≡ replicate channels (pos 0)) → (tick : ℕ) → tick < ticks → frame_at tick new ≡ given_at tick o
+rows_given o ring mid new ticks taken channels holds count same laid kept hushed tick less = elim (cases_lt tick taken) [
+  | inl below ↦ kept tick below ∙ laid tick below ∙ sym (given_ready o ring tick holds (omega (arith, below, count)))
+  | inr past ↦
+      hushed tick past less ∙ ap (λ (n : ℕ). replicate n (pos 0)) same ∙ sym (given_past o tick (omega (arith, past, count, less)))
+]

@@ -1,0 +1,389 @@
+-- Microframes of a device of one domain that runs no stream, at detail 0: they say nothing, and their ticks may wait.
+use Rattle.std.proofs.Common.{◌≡◌, ◌∙◌, sym, ap, arith, subst, refl, ℕ, zero, suc, ◌+◌, ◌==◌, ◌&&◌, nat_le, Bool, true, false, if◌then◌else◌, List, [], ◌∷◌, ◌++◌, map, filter, Option, None, inl, inr}
+use Rattle.std.proofs.Math.Bool.{and-false}
+use Rattle.std.proofs.Math.Path.{fun_ext}
+use Rattle.std.specs.Option.{option_map, option_map_or}
+use Rattle.std.proofs.lemmas.Bool.{cases_Bool}
+use Rattle.std.proofs.lemmas.List.{append-nil}
+use Rattle.uac_topology.specs.Function.{FunctionFields}
+use Rattle.uac_entities.specs.declared.stream.StreamInterface.{StreamInterface}
+use Rattle.uac_units.specs.Hearing.{Reading, at_most_u64}
+use Rattle.uac_script.specs.Phrase.{PhraseMark}
+use Rattle.uac_flow.specs.FlowStreams.{InStream, OutStream, after_ticks, in_after_end, is_dry, is_full, out_after_end}
+use Rattle.uac_device.specs.InterfaceStreams.{NoneRuns, changed_where, streams_changed_at}
+use Rattle.uac_device.specs.DeviceWorld.{DeviceWorld, Domain, after_advance, after_end, after_frames, after_tick, heard_of, input_of, is_on, next_ticks, renders_of, set_jack, step_in, steps_with_next, streamed_frame}
+use Rattle.uac_device.specs.declared.jacks.Jack.{Jack}
+use Rattle.uac_ring.specs.declared.counts.StreamCounts.{StreamCounts}
+use Rattle.uac_transcript.specs.Transcript.{Said, says_over, says_under}
+use Rattle.uac_streaming.specs.Telling.{Telling, in_turn, telling_after, without_event}
+use Rattle.uac_streaming.specs.StreamingWorld as streams
+use Rattle.uac_streaming.specs.StreamingWorld.{StreamingWorld, all_ends, all_feedback, end_turn, found_counts, found_lines, in_packets, numbers, one_over, one_under, out_packets}
+use Rattle.uac_streaming.proofs.StreamingWorldQuietLemmas.{quiet_feedback, quiet_in, quiet_out}
+use Rattle.uac_running.specs.RunningWorld.{RunningWorld, streaming_of}
+use Rattle.uac_running.specs.ReportLines.{played_lines}
+use Rattle.uac_running.specs.Events.{after_all_jacks, after_jacks, all_domains, domain_microframe, domain_microframes, ends_and_feedback, jacks_after_frame, microframe, microframes, next_frame, number_said, of_streams, packets_and_ticks, tick, tick_times}
+use Rattle.uac_running.specs.EventTicks.{met_after, running_after}
+use Rattle.uac_running.specs.Quiet.{IsQuiet, Waits}
+use Rattle.uac_running.specs.RunningKept.{RunningFields, RunningStands}
+use Rattle.uac_streaming.specs.Room.{HaveRoom}
+use Rattle.uac_streaming.proofs.RoomDeviceLemmas.{HaveSmallNumbers}
+use Rattle.uac_running.proofs.RoomLemmas.{one_microframe}
+use Rattle.uac_running.specs.Silence.{packets}
+use Rattle.uac_running.proofs.EventsLemmas.{after_jacks-kept, numbered}
+use Rattle.uac_running.proofs.EventTicksLemmas.{ticks_by_parts}
+use Rattle.uac_running.proofs.StillnessLemmas.{none_given, stills_after}
+use Rattle.uac_running.proofs.SilencePacketLemmas.{packets_first, still_streams}
+
+-- ---- a clock goes on beside the ticks
+
+-- a device with other clocks
+abbrev clocked : List Domain → DeviceWorld → DeviceWorld
+clocked ds w = record w { domains = ds }
+
+-- the clocks of which that of a domain went on
+abbrev stepped : ℕ → DeviceWorld → List Domain
+stepped domain w = map {A = Domain} (λ d. if d.id == domain then record d { steps = steps_with_next w d } else d) w.domains
+
+none_where : {S : Type 0} (test : ℕ → Bool) (change : ℕ → S → S) (streams : ℕ → Option S) → ((k : ℕ) → streams k ≡ None) → changed_where test change streams ≡ streams
+none_where test change streams none = fun_ext (λ k. (ap (option_map (λ s. if test k then change k s else s)) (none k) ∙ sym (none k)))
+
+advance_clocks : (domain : ℕ) (w : DeviceWorld) → NoneRuns w.outs w.ins → after_advance domain w ≡ clocked (stepped domain w) w
+unfolding after_advance
+advance_clocks domain w none =
+    ap (λ (outs : ℕ → Option OutStream). record w { domains = stepped domain w; outs = outs })
+    (none_where (is_on w domain) (λ interface. after_ticks (next_ticks domain w)) w.outs (λ k. (none k).0))
+
+jacks_clocked : (domain : ℕ) (ds : List Domain) (jacks : List Jack) (w : DeviceWorld) → after_jacks domain jacks (clocked ds w) ≡ clocked ds (after_jacks domain jacks w)
+unfolding set_jack
+jacks_clocked domain ds [] w = refl
+jacks_clocked domain ds (j ∷ js) w =
+    elim (cases_Bool (j.domain == domain)) [
+      | inl same ↦ rw same (jacks_clocked domain ds js (set_jack j.terminal (next_frame j) w))
+      | inr other ↦ rw other (jacks_clocked domain ds js w)
+    ]
+
+-- a running device at another time, with other clocks
+abbrev with_clocks : ℕ → List Domain → RunningWorld → RunningWorld
+with_clocks time ds r = record r { time = time; device = clocked ds r.device }
+
+tick_clocked : (domain time : ℕ) (ds : List Domain) (r : RunningWorld) → (tick domain (with_clocks time ds r)).world ≡ with_clocks time ds (tick domain r).world
+unfolding tick after_all_jacks after_tick input_of streamed_frame found_counts heard_of renders_of
+tick_clocked domain time ds r =
+    ap
+    (λ (w : DeviceWorld). record r {
+      time = time;
+      device = after_tick domain w;
+      jacks = jacks_after_frame domain r.jacks;
+      met = found_counts domain w r.met;
+      meters = after_frames (heard_of domain (after_tick domain w)) r.meters;
+      renders = at_most_u64 (r.renders + renders_of domain w);
+    })
+    (jacks_clocked domain ds r.jacks r.device)
+
+-- the world after so many ticks
+abbrev pub ticked : ℕ → ℕ → RunningWorld → RunningWorld
+ticked n domain r = (tick_times n domain r).world
+
+ticked_clocked : (n domain time : ℕ) (ds : List Domain) (r : RunningWorld) → ticked n domain (with_clocks time ds r) ≡ with_clocks time ds (ticked n domain r)
+unfolding tick_times
+ticked_clocked zero domain time ds r = refl
+ticked_clocked (suc n) domain time ds r =
+    ap (ticked n domain) (tick_clocked domain time ds r) ∙ ticked_clocked n domain time ds (tick domain r).world
+
+-- so many ticks and then so many more
+ticks_join : (n t domain : ℕ) (r : RunningWorld) → ticked t domain (ticked n domain r) ≡ ticked (n + t) domain r
+unfolding tick_times
+ticks_join zero t domain r =
+    let same : t ≡ 0 + t = omega arith in
+    ap (λ (k : ℕ). ticked k domain r) same
+ticks_join (suc n) t domain r =
+    let same : suc (n + t) ≡ suc n + t = omega arith in
+    ticks_join n t domain (tick domain r).world ∙ ap (λ (k : ℕ). ticked k domain r) same
+
+-- what a tick keeps, so many keep
+ticked_kept : {X : Type 0} (f : RunningWorld → X) (domain : ℕ) → ((r : RunningWorld) → f (tick domain r).world ≡ f r) → (n : ℕ) (r : RunningWorld) → f (ticked n domain r) ≡ f r
+unfolding tick_times
+ticked_kept f domain keeps zero r = refl
+ticked_kept f domain keeps (suc n) r = ticked_kept f domain keeps n (tick domain r).world ∙ keeps r
+
+time_kept : (domain : ℕ) (r : RunningWorld) → (tick domain r).world.time ≡ r.time
+unfolding tick
+time_kept domain r = refl
+
+function_kept : (domain : ℕ) (r : RunningWorld) → (tick domain r).world.device.function ≡ r.device.function
+unfolding tick after_tick after_all_jacks set_jack
+function_kept domain r = after_jacks-kept (λ w. w.function) (λ t frame w. refl) domain r.jacks r.device
+
+clocks_kept : (domain : ℕ) (r : RunningWorld) → stepped domain (tick domain r).world.device ≡ stepped domain r.device
+unfolding tick after_tick after_all_jacks set_jack step_in
+clocks_kept domain r = after_jacks-kept (stepped domain) (λ t frame w. refl) domain r.jacks r.device
+
+next_kept : (domain : ℕ) (r : RunningWorld) → next_ticks domain (tick domain r).world.device ≡ next_ticks domain r.device
+unfolding tick after_tick after_all_jacks set_jack step_in next_ticks
+next_kept domain r = after_jacks-kept (next_ticks domain) (λ t frame w. refl) domain r.jacks r.device
+
+-- ---- where it is quiet, a tick finds and says nothing
+
+quiet_tick : (domain : ℕ) (r : RunningWorld) → IsQuiet domain r → IsQuiet domain (tick domain r).world
+unfolding tick
+quiet_tick domain r q = record {
+  detail = q.detail;
+  none = (stills_after domain r q.none).none;
+  only = ap (λ (f : FunctionFields). f.domains) (function_kept domain r) ∙ q.only;
+}
+
+pub quiet_ticked : (n domain : ℕ) (r : RunningWorld) → IsQuiet domain r → IsQuiet domain (ticked n domain r)
+unfolding tick_times
+quiet_ticked zero domain r q = q
+quiet_ticked (suc n) domain r q = quiet_ticked n domain (tick domain r).world (quiet_tick domain r q)
+
+none_empty : (domain : ℕ) (w : DeviceWorld) (k : ℕ) → NoneRuns w.outs w.ins → streams.finds_empty domain w k ≡ false
+none_empty domain w k none =
+    ap (λ (o : Option OutStream). is_on w domain k && option_map_or is_dry o false) (none k).0 ∙ and-false (is_on w domain k)
+
+none_full : (domain : ℕ) (w : DeviceWorld) (k : ℕ) → NoneRuns w.outs w.ins → streams.finds_full domain w k ≡ false
+none_full domain w k none =
+    ap (λ (i : Option InStream). is_on w domain k && option_map_or is_full i false) (none k).1 ∙ and-false (is_on w domain k)
+
+none_counted : (domain : ℕ) (w : DeviceWorld) (met : ℕ → StreamCounts) → NoneRuns w.outs w.ins → found_counts domain w met ≡ met
+unfolding found_counts
+none_counted domain w met none =
+    fun_ext
+    (λ k.
+    (ap
+    (λ (b : Bool).
+    let c = if b then one_under (met k) else met k in
+    if streams.finds_full domain w k then one_over c else c)
+    (none_empty domain w k none)
+    ∙ ap (λ (b : Bool). if b then one_over (met k) else met k) (none_full domain w k none)))
+
+none_of : {A : Type 0} (test : A → Bool) (xs : List A) → ((x : A) → test x ≡ false) → filter test xs ≡ []
+none_of test [] none = refl
+none_of test (x ∷ xs) none = rw (none x) (none_of test xs none)
+
+none_found : (domain : ℕ) (w : DeviceWorld) → NoneRuns w.outs w.ins → found_lines domain w ≡ []
+unfolding found_lines
+none_found domain w none =
+    let full : StreamInterface → Bool = λ s. streams.finds_full domain w s.number in
+    ap (λ (ss : List StreamInterface). map (λ s. says_under s.number) ss ++ map (λ s. says_over s.number) (filter full w.function.streams))
+    (none_of (λ (s : StreamInterface). streams.finds_empty domain w s.number) w.function.streams (λ s. none_empty domain w s.number none))
+    ∙ ap (λ (ss : List StreamInterface). map (λ s. says_over s.number) ss) (none_of full w.function.streams (λ s. none_full domain w s.number none))
+
+tick_silent : (domain : ℕ) (r : RunningWorld) → IsQuiet domain r → (tick domain r).lines ≡ []
+unfolding tick
+tick_silent domain r q =
+    let played : List Said = played_lines domain (after_tick domain (after_all_jacks domain r)) in
+    ap (λ (ls : List Said). ls ++ (if nat_le 1 r.detail then played else [])) (none_found domain (after_all_jacks domain r) (none_given domain r q.none))
+    ∙ ap (λ (n : ℕ). if nat_le 1 n then played else []) q.detail
+
+ticks_silent : (n domain : ℕ) (r : RunningWorld) → IsQuiet domain r → (tick_times n domain r).lines ≡ []
+unfolding tick_times
+ticks_silent zero domain r q = refl
+ticks_silent (suc n) domain r q =
+    ap (λ (ls : List Said). ls ++ (tick_times n domain (tick domain r).world).lines) (tick_silent domain r q)
+    ∙ ticks_silent n domain (tick domain r).world (quiet_tick domain r q)
+
+tick_meets : (domain : ℕ) (r : RunningWorld) → IsQuiet domain r → (tick domain r).world.met ≡ r.met
+unfolding tick
+tick_meets domain r q = none_counted domain (after_all_jacks domain r) r.met (none_given domain r q.none)
+
+ticks_meet : (n domain : ℕ) (r : RunningWorld) → IsQuiet domain r → (ticked n domain r).met ≡ r.met
+unfolding tick_times
+ticks_meet zero domain r q = refl
+ticks_meet (suc n) domain r q = ticks_meet n domain (tick domain r).world (quiet_tick domain r q) ∙ tick_meets domain r q
+
+pub world_ticked : (n domain : ℕ) (r : RunningWorld) → running_after domain n r ≡ ticked n domain r
+world_ticked n domain r = sym (ap (λ (told : Telling RunningWorld). told.world) (ticks_by_parts n domain r))
+
+pub met_waits : (n domain : ℕ) (r : RunningWorld) → IsQuiet domain r → met_after domain n r ≡ r.met
+unfolding running_after
+met_waits n domain r q = ap (λ (v : RunningWorld). v.met) (world_ticked n domain r) ∙ ticks_meet n domain r q
+
+-- ---- a microframe
+
+-- a domain's clock went on
+abbrev advanced : ℕ → RunningWorld → RunningWorld
+advanced domain r = record r { device = after_advance domain r.device }
+
+-- a microframe more, whose ticks are still to come
+abbrev pub gone_on : ℕ → RunningWorld → RunningWorld
+gone_on domain r = advanced domain (numbered r)
+
+quiet_numbered : (domain : ℕ) (r : RunningWorld) → IsQuiet domain r → IsQuiet domain (numbered r)
+quiet_numbered domain r q = record { detail = q.detail; none = q.none; only = q.only }
+
+quiet_advanced : (domain : ℕ) (r : RunningWorld) → IsQuiet domain r → IsQuiet domain (advanced domain r)
+quiet_advanced domain r q =
+    subst (λ (w : DeviceWorld). IsQuiet domain (record r { device = w })) (sym (advance_clocks domain r.device q.none))
+    (record { detail = q.detail; none = q.none; only = q.only })
+
+pub quiet_gone_on : (domain : ℕ) (r : RunningWorld) → IsQuiet domain r → IsQuiet domain (gone_on domain r)
+quiet_gone_on domain r q = quiet_advanced domain (numbered r) (quiet_numbered domain r q)
+
+gone_clocked : (domain : ℕ) (r : RunningWorld) → IsQuiet domain r → gone_on domain r ≡ with_clocks (at_most_u64 (r.time + 1)) (stepped domain r.device) r
+gone_clocked domain r q =
+    ap (λ (w : DeviceWorld). record r { time = at_most_u64 (r.time + 1); device = w }) (advance_clocks domain r.device q.none)
+
+-- a microframe more before the ticks that wait, or after them
+gone_waits : (n domain : ℕ) (r : RunningWorld) → IsQuiet domain r → gone_on domain (ticked n domain r) ≡ ticked n domain (gone_on domain r)
+gone_waits n domain r q =
+    gone_clocked domain (ticked n domain r) (quiet_ticked n domain r q)
+    ∙ ap (λ (time : ℕ). with_clocks (at_most_u64 (time + 1)) (stepped domain (ticked n domain r).device) (ticked n domain r))
+    (ticked_kept (λ (v : RunningWorld). v.time) domain (time_kept domain) n r)
+    ∙ ap (λ (ds : List Domain). with_clocks (at_most_u64 (r.time + 1)) ds (ticked n domain r))
+    (ticked_kept (λ (v : RunningWorld). stepped domain v.device) domain (clocks_kept domain) n r)
+    ∙ sym (ticked_clocked n domain (at_most_u64 (r.time + 1)) (stepped domain r.device) r)
+    ∙ ap (ticked n domain) (sym (gone_clocked domain r q))
+
+silent_packets : (marks : List PhraseMark) (r : RunningWorld) → NoneRuns r.device.outs r.device.ins → packets marks r ≡ without_event r
+silent_packets marks r none =
+    ap (λ (t : Telling RunningWorld). telling_after t.lines (of_streams (in_packets r.detail marks) t.world))
+    (still_streams (out_packets r.detail marks) r (quiet_out r.detail marks (streaming_of r) none))
+    ∙ still_streams (in_packets r.detail marks) r (quiet_in r.detail marks (streaming_of r) none)
+
+one_domain : (domain : ℕ) (r : RunningWorld) → IsQuiet domain r → all_domains r ≡ without_event (ticked (next_ticks domain r.device) domain (advanced domain r))
+unfolding domain_microframes domain_microframe
+one_domain domain r q =
+    let told : Telling RunningWorld = tick_times (next_ticks domain r.device) domain (advanced domain r) in
+    ap (λ (ds : List ℕ). domain_microframes ds r) q.only
+    ∙ ap (λ (ls : List Said). record { lines = ls; world = told.world })
+    (append-nil told.lines ∙ ticks_silent (next_ticks domain r.device) domain (advanced domain r) (quiet_advanced domain r q))
+
+pub quiet_ticks : (marks : List PhraseMark) (domain : ℕ) (r : RunningWorld) → IsQuiet domain r
+    → packets_and_ticks marks r ≡ without_event (ticked (next_ticks domain r.device) domain (advanced domain r))
+quiet_ticks marks domain r q =
+    sym (packets_first marks r)
+    ∙ ap (λ (t : Telling RunningWorld). telling_after t.lines (all_domains t.world)) (silent_packets marks r q.none)
+    ∙ one_domain domain r q
+
+none_at : {S : Type 0} (interface : ℕ) (change : S → S) (streams : ℕ → Option S) → ((k : ℕ) → streams k ≡ None) → streams_changed_at interface change streams ≡ streams
+none_at interface change streams none = fun_ext (λ k. by k (k == interface))
+  where
+    by : (k : ℕ) (b : Bool) → (if b then option_map change (streams k) else streams k) ≡ streams k
+    by k true = ap (option_map change) (none k) ∙ sym (none k)
+    by k false = refl
+
+none_ends : (interface : ℕ) (w : DeviceWorld) → NoneRuns w.outs w.ins → after_end interface w ≡ w
+unfolding after_end
+none_ends interface w none =
+    ap (λ (outs : ℕ → Option OutStream). record w { outs = outs; ins = streams_changed_at interface in_after_end w.ins })
+    (none_at interface out_after_end w.outs (λ k. (none k).0))
+    ∙ ap (λ (ins : ℕ → Option InStream). record w { ins = ins }) (none_at interface in_after_end w.ins (λ k. (none k).1))
+
+one_ends : (interface : ℕ) (w : StreamingWorld) → NoneRuns w.device.outs w.device.ins → end_turn 0 interface w ≡ without_event w
+unfolding end_turn
+one_ends interface w none = ap (λ (v : DeviceWorld). without_event (record w { device = v })) (none_ends interface w.device none)
+
+turns_end : (ns : List ℕ) (w : StreamingWorld) → NoneRuns w.device.outs w.device.ins → in_turn (end_turn 0) ns w ≡ without_event w
+unfolding in_turn
+turns_end [] w none = refl
+turns_end (n ∷ ns) w none =
+    ap (λ (t : Telling StreamingWorld). telling_after t.lines (in_turn (end_turn 0) ns t.world)) (one_ends n w none) ∙ turns_end ns w none
+
+streams_end : (w : StreamingWorld) → NoneRuns w.device.outs w.device.ins → all_ends 0 w ≡ without_event w
+unfolding all_ends
+streams_end w none = turns_end (numbers w.device.function) w none
+
+silent_ends : (marks : List PhraseMark) (domain : ℕ) (r : RunningWorld) → IsQuiet domain r → ends_and_feedback marks r ≡ without_event r
+unfolding ends_and_feedback
+silent_ends marks domain r q =
+    ap (λ (t : Telling RunningWorld). telling_after t.lines (of_streams (all_feedback t.world.detail marks) t.world))
+    (still_streams (all_ends r.detail) r
+    (subst (λ (n : ℕ). all_ends n (streaming_of r) ≡ without_event (streaming_of r)) (sym q.detail) (streams_end (streaming_of r) q.none)))
+    ∙ still_streams (all_feedback r.detail marks) r (quiet_feedback r.detail marks (streaming_of r) q.none)
+
+-- a microframe is its ticks, after one microframe more
+pub quiet_microframe : (marks : List PhraseMark) (domain : ℕ) (r : RunningWorld) → IsQuiet domain r
+    → microframe marks r ≡ without_event (ticked (next_ticks domain r.device) domain (gone_on domain r))
+unfolding microframe next_ticks step_in
+quiet_microframe marks domain r q =
+    let all : Telling RunningWorld = telling_after (packets_and_ticks marks (numbered r)).lines (ends_and_feedback marks (packets_and_ticks marks (numbered r)).world) in
+    let later : RunningWorld = ticked (next_ticks domain r.device) domain (gone_on domain r) in
+    ap (λ (n : ℕ). telling_after (number_said n (at_most_u64 (r.time + 1))) all) q.detail
+    ∙ ap (λ (t : Telling RunningWorld). telling_after t.lines (ends_and_feedback marks t.world))
+    (quiet_ticks marks domain (numbered r) (quiet_numbered domain r q))
+    ∙ silent_ends marks domain later (quiet_ticked (next_ticks domain r.device) domain (gone_on domain r) (quiet_gone_on domain r q))
+
+-- one microframe more is its ticks more that wait
+pub more_wait : (marks : List PhraseMark) (waiting domain : ℕ) (r : RunningWorld) → IsQuiet domain r
+    → (microframe marks (ticked waiting domain r)).world ≡ ticked (waiting + next_ticks domain r.device) domain (gone_on domain r)
+more_wait marks waiting domain r q =
+    ap (λ (t : Telling RunningWorld). t.world) (quiet_microframe marks domain (ticked waiting domain r) (quiet_ticked waiting domain r q))
+    ∙ ap (λ (n : ℕ). ticked n domain (gone_on domain (ticked waiting domain r)))
+    (ticked_kept (λ (v : RunningWorld). next_ticks domain v.device) domain (next_kept domain) waiting r)
+    ∙ ap (ticked (next_ticks domain r.device) domain) (gone_waits waiting domain r q)
+    ∙ ticks_join waiting (next_ticks domain r.device) domain (gone_on domain r)
+
+-- of several microframes, the last
+last_microframe : (marks : List PhraseMark) (n : ℕ) (r : RunningWorld) → (microframes marks (suc n) r).world ≡ (microframe marks (microframes marks n r).world).world
+unfolding microframes
+last_microframe marks zero r = refl
+last_microframe marks (suc n) r = last_microframe marks n (microframe marks r).world
+
+pub one_microframe_more : (marks : List PhraseMark) (n : ℕ) (r : RunningWorld) → (microframe marks (microframes marks n r).world).world ≡ (microframes marks (n + 1) r).world
+one_microframe_more marks n r =
+    let same : suc n ≡ n + 1 = omega arith in
+    sym (last_microframe marks n r) ∙ ap (λ (k : ℕ). (microframes marks k r).world) same
+
+-- ---- ticks that wait
+
+pub waits_quiet : (domain waiting : ℕ) (p : RunningFields) (shown : List Reading) (r : RunningWorld) → Waits domain waiting p shown r → IsQuiet domain r
+waits_quiet domain waiting p shown r waits = subst (IsQuiet domain) (sym waits.done) (quiet_ticked waiting domain waits.before waits.quiet)
+
+pub none_waits : (domain : ℕ) (p : RunningFields) (shown : List Reading) (r : RunningWorld) → RunningStands p shown r → IsQuiet domain r → Waits domain 0 p shown r
+unfolding tick_times
+none_waits domain p shown r stands quiet = record { before = r; stands = stands; quiet = quiet; done = refl }
+
+-- what waited is done
+pub waited : (domain waiting : ℕ) (p q : RunningFields) (shown showing : List Reading) (r : RunningWorld) (waits : Waits domain waiting p shown r)
+    → RunningStands q showing (running_after domain waiting waits.before) → RunningStands q showing r
+waited domain waiting p q shown showing r waits stands =
+    subst (RunningStands q showing) (world_ticked waiting domain waits.before ∙ sym waits.done) stands
+
+-- where none waits, nothing is to be done
+pub waited_none : (domain waiting : ℕ) (p : RunningFields) (shown : List Reading) (r : RunningWorld) → waiting ≡ 0 → Waits domain waiting p shown r → RunningStands p shown r
+unfolding tick_times
+waited_none domain waiting p shown r zeroth waits =
+    subst (RunningStands p shown) (sym (waits.done ∙ ap (λ (n : ℕ). ticked n domain waits.before) zeroth)) waits.stands
+
+-- the ticks of one microframe more wait
+pub waits_more : (marks : List PhraseMark) (domain left more : ℕ) (p q : RunningFields) (shown : List Reading) (r : RunningWorld) (waits : Waits domain left p shown r)
+    → more ≡ next_ticks domain waits.before.device → RunningStands q shown (gone_on domain waits.before) → Waits domain (left + more) q shown (microframe marks r).world
+waits_more marks domain left more p q shown r waits same stands = record {
+  before = gone_on domain waits.before;
+  stands = stands;
+  quiet = quiet_gone_on domain waits.before waits.quiet;
+  done =
+      ap (λ (w : RunningWorld). (microframe marks w).world) waits.done ∙ more_wait marks left domain waits.before waits.quiet
+      ∙ ap (λ (n : ℕ). ticked (left + n) domain (gone_on domain waits.before)) (sym same);
+}
+
+-- ---- several microframes
+
+-- the world after a microframe
+abbrev next_world : ℕ → RunningWorld → RunningWorld
+next_world domain r = ticked (next_ticks domain r.device) domain (gone_on domain r)
+
+quiet_next : (domain : ℕ) (r : RunningWorld) → IsQuiet domain r → IsQuiet domain (next_world domain r)
+quiet_next domain r q = quiet_ticked (next_ticks domain r.device) domain (gone_on domain r) (quiet_gone_on domain r q)
+
+pub quiet_lines : (marks : List PhraseMark) (n domain : ℕ) (r : RunningWorld) → IsQuiet domain r → (microframes marks n r).lines ≡ []
+unfolding microframes
+quiet_lines marks zero domain r q = refl
+quiet_lines marks (suc n) domain r q =
+    ap (λ (t : Telling RunningWorld). t.lines ++ (microframes marks n t.world).lines) (quiet_microframe marks domain r q)
+    ∙ quiet_lines marks n domain (next_world domain r) (quiet_next domain r q)
+
+next_function : (domain : ℕ) (r : RunningWorld) → (next_world domain r).device.function ≡ r.device.function
+unfolding after_advance
+next_function domain r =
+    ticked_kept (λ (v : RunningWorld). v.device.function) domain (function_kept domain) (next_ticks domain r.device) (gone_on domain r)
+
+pub quiet_room : (marks : List PhraseMark) (n domain : ℕ) (r : RunningWorld) → HaveSmallNumbers r.device.function → IsQuiet domain r → HaveRoom r.device
+    → HaveRoom (microframes marks n r).world.device
+unfolding microframes
+quiet_room marks zero domain r small q room = room
+quiet_room marks (suc n) domain r small q room =
+    subst (λ (t : Telling RunningWorld). HaveRoom (microframes marks n t.world).world.device) (sym (quiet_microframe marks domain r q))
+    (quiet_room marks n domain (next_world domain r) (subst HaveSmallNumbers (sym (next_function domain r)) small) (quiet_next domain r q)
+    (subst (λ (t : Telling RunningWorld). HaveRoom t.world.device) (quiet_microframe marks domain r q) (one_microframe marks r small room)))
