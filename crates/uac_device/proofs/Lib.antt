@@ -28,3 +28,7 @@ pub mod StreamRowsAllLemmas
 pub mod JacksLemmas
 pub mod HeldRowsLemmas
 pub mod HeardRowsLemmas
+pub mod DeviceWaitsLemmas
+pub mod DeviceWaitsTicksLemmas
+pub mod DeviceWaitsHeardLemmas
+pub mod DeviceAheadLemmas

@@ -1,9 +1,9 @@
 -- Several ticks of a domain: what becomes of a device's world, tick by tick, and each of its parts after so many of them. A tick has
 -- the number of those before it. Profile: the events and their order; the terms are those of Audio Class 2.0, 3.13.
-use Rattle.std.specs.Prelude.{◌≡◌, ℕ, zero, suc, ◌+◌, ◌-◌, ◌≤◌, ◌<◌, ◌==◌, ◌&&◌, ◌||◌, not, nat_le, nat_lt, Bool, true, false, if◌then◌else◌, min}
-use Rattle.std.specs.Prelude.{ℤ, List, [], ◌++◌, map, filter, length, get_or, Option, Some, None, IfSome, is_some, unwrap_or}
-use Rattle.std.specs.List.{list_all, range_with_len}
-use Rattle.std.specs.Option.{option_and_then, option_map_or}
+use Rattle.std.specs.Prelude.{◌≡◌, ℕ, zero, suc, ◌<◌, ◌&&◌, ◌||◌, not, Bool, true, false, if◌then◌else◌}
+use Rattle.std.specs.Prelude.{ℤ, List, map, filter, Option, IfSome}
+use Rattle.std.specs.List.{list_all}
+use Rattle.std.specs.Option.{option_map_or}
 use Rattle.uac_graph.specs.GraphControls.{controls_in}
 use Rattle.uac_graph.specs.Meaning.{meaning}
 use Rattle.uac_graph.specs.Needs.{is_end}

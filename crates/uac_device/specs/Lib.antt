@@ -13,3 +13,4 @@ pub mod Linked
 pub mod DeviceTurns
 pub mod Following
 pub mod Stillness
+pub mod DeviceWaits

@@ -1,5 +1,5 @@
 // The device and its events.
-ghost use Rattle.std.specs.Prelude.{◌≡◌, ◌≤◌, ◌<◌, ◌+◌, ◌*◌, ◌^◌, ◌≤ℤ◌, false, true, pos, negsuc, IfOk, length};
+ghost use Rattle.std.specs.Prelude.{◌≡◌, ◌≤◌, ◌<◌, ◌+◌, ◌*◌, ◌^◌, ◌≤ℤ◌, false, true, pos, negsuc, ℕ, List, IfOk, IfSome, length};
 ghost use Rattle.std.specs.List.{All};
 ghost use Rattle.std.specs.Option.{option_map};
 ghost use Rattle.uac_graph.specs.Meaning.{entity};
@@ -12,7 +12,10 @@ ghost use Rattle.uac_device.specs.DeviceWorld.{begun_by, feedback_in};
 ghost use Rattle.uac_device.specs.DeviceWorld.{frames_in, fresh, heard_of, is_due_in, is_input_jack, is_output_jack, level_of, met_of};
 ghost use Rattle.uac_device.specs.DeviceWorld.{next_ticks, packet_in, played_at, after_receiving, renders_of, runs_one};
 ghost use Rattle.uac_device.specs.DeviceWorld.{after_sending_in_packet, set_jack, after_end};
-ghost use Rattle.uac_device.specs.DeviceWorld.{target_of, after_tick};
+ghost use Rattle.uac_device.specs.DeviceWorld.{at_in, target_of, after_tick};
+ghost use Rattle.uac_flow.specs.FlowStreams.{in_level};
+ghost use Rattle.uac_flow.specs.FlowWaits.{sent_more};
+ghost use Rattle.uac_device.specs.DeviceWaits.{AreSteady, feedback_later_in, frames_later_in, may_wait_in, takes_in};
 ghost use Rattle.uac_device.specs.DeviceKept.{IsControlled, DeviceStands, begun_fields};
 ghost use Rattle.uac_device.specs.Stillness.{IsStill};
 ghost use Rattle.uac_device.specs.InterfaceStreams.{NoneRuns};
@@ -368,6 +371,53 @@ impl Device {
         functions_are_sound(&self.function);
         interfaces_are_numbered();
         self.device_streams.go_on(domain, ticks)
+    }
+
+    /// Whether so many ticks of a domain may wait: each stream that runs is on the domain, those to the device are primed, without a lost
+    /// packet and with a frame for each of the ticks, and the rings of those from it have room.
+    pub fn may_wait(&self, domain: u8, ticks: u32) -> bool
+        ensures value { (w : DeviceWorld) → DeviceStands self.now w → result ≡ may_wait_in domain ticks w }
+        ensures steady { (w : DeviceWorld) → DeviceStands self.now w → result ≡ true → AreSteady domain ticks w }
+    {
+        functions_are_sound(&self.function);
+        interfaces_are_numbered();
+        self.device_streams.may_wait(domain, ticks)
+    }
+
+    /// Whether the ring of an interface's stream to the device has room for all frames of a packet of so many bytes; true where it runs
+    /// none.
+    pub fn takes(&self, interface: u8, bytes: u32) -> bool
+        ensures { (w : DeviceWorld) (packet : List ℕ) → DeviceStands self.now w → length packet ≡ bytes
+            → result ≡ takes_in w interface packet }
+    {
+        self.device_streams.takes(interface, bytes)
+    }
+
+    /// The report that is due of an interface's stream to the device, as `feedback`, when so many ticks wait.
+    pub fn feedback_later(&self, interface: u8, ticks: u32) -> Option<u32>
+        ensures { (w : DeviceWorld) → DeviceStands self.now w → result ≡ feedback_later_in w interface ticks }
+    {
+        self.device_streams.feedback_later(interface, ticks)
+    }
+
+    /// How many frames the next packet of an interface has, when so many ticks wait and so many of its frames were sent; 0 where it runs no
+    /// stream from the device.
+    pub fn frames_later(&self, interface: u8, ticks: u32, sent: u32) -> u32
+        requires ticks { ticks ≤ 128 }
+        requires sent { sent ≤ 2176 }
+        ensures frames { (w : DeviceWorld) → DeviceStands self.now w → result ≡ frames_later_in w interface ticks sent }
+        ensures few { sent + result ≤ 2176 }
+    {
+        self.device_streams.frames_later(interface, ticks, sent)
+    }
+
+    /// So many of the oldest frames of an interface's stream from the device are gone: they were sent.
+    pub fn drop_sent(&mut self, interface: u8, count: u32)
+        ensures stands { (w : DeviceWorld) → DeviceStands self.old w → IfSome (w.ins interface) (λ i. count ≤ in_level i)
+            → DeviceStands self.new (at_in interface (sent_more count) w) }
+        ensures function { self.new.function ≡ self.old.function }
+    {
+        self.device_streams.drop_sent(interface, count);
     }
 
     /// So many ticks of a domain, before each of which its jacks give the next frames of their tones: as `jack` and `tick`, one after the

@@ -60,7 +60,7 @@ impl DeviceStreams {
     }
 
     // The index of an interface's stream.
-    fn stream_index(&self, interface: u16) -> Option<usize>
+    pub(crate) fn stream_index(&self, interface: u16) -> Option<usize>
         ensures { result ≡ device_stream_index self.now interface }
     {
         self.list

@@ -8,6 +8,8 @@ mod device_streams;
 /// One tick, interface by interface.
 mod ticking;
 
+/// What is known of the streams while ticks wait.
+mod ahead;
 /// The clocks of the domains.
 mod clocks;
 /// What follows from the function and the controls, kept for the ticks.

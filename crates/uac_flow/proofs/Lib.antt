@@ -4,3 +4,4 @@ pub mod FlowStreamsLemmas
 pub mod FlowTicksLemmas
 pub mod FlowTicksRowLemmas
 mod Worked
+pub mod FlowWaitsLemmas

@@ -1,6 +1,6 @@
 -- Several ticks of a domain: what becomes of a stream, tick by tick, and what each tick gives it or takes from it. A tick has the number
 -- of those before it. Profile.
-use Rattle.std.specs.Prelude.{◌≡◌, ℕ, zero, suc, ◌+◌, ◌-◌, ◌≤◌, ◌==◌, ◌&&◌, ◌||◌, not, nat_le, nat_lt, Bool, if◌then◌else◌, min}
+use Rattle.std.specs.Prelude.{ℕ, zero, suc, ◌+◌, ◌-◌, ◌≤◌, ◌==◌, ◌&&◌, ◌||◌, not, nat_le, nat_lt, Bool, if◌then◌else◌, min}
 use Rattle.std.specs.Prelude.{ℤ, pos, List, [], ◌++◌, map, length, replicate, get_or, Option, Some, None, is_some, unwrap_or}
 use Rattle.std.specs.List.{range_with_len}
 use Rattle.uac_ring.specs.Rings.{ring_frames}

@@ -4,3 +4,5 @@ pub mod FlowStreams
 -- What the laws say besides.
 pub mod Flows
 pub mod FlowTicks
+-- What the contracts below them cite: steps of the code, no part of what is promised.
+pub mod FlowWaits

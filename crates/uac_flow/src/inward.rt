@@ -1,5 +1,5 @@
 // A running stream from the device.
-ghost use Rattle.std.specs.Prelude.{◌≡◌, ◌≤◌, ℕ, ℤ, List, length};
+ghost use Rattle.std.specs.Prelude.{◌≡◌, ◌+◌, ◌-◌, ◌≤◌, ℕ, ℤ, List, length, min};
 ghost use Rattle.uac_alt.specs.AltStreams.{stream_fields};
 ghost use Rattle.uac_ring.specs.Rings.{ring_frames};
 ghost use Rattle.uac_flow.specs.Flows.{CanRun, IsInFlow, InStands};
@@ -7,7 +7,8 @@ ghost use Rattle.uac_units.specs.SampleRows.{HaveTicks, frame_at};
 ghost use Rattle.uac_flow.specs.FlowTicks as ticks;
 ghost use Rattle.uac_flow.specs.FlowTicks.{IsHeld, in_after_ticks};
 ghost use Rattle.uac_flow.specs.FlowStreams as spec;
-ghost use Rattle.uac_flow.specs.FlowStreams.{InStream, after_putting, after_sending_in, sent_in_frames, sent_in_packet, in_after_end, started_in};
+ghost use Rattle.uac_flow.specs.FlowWaits.{sent_more};
+ghost use Rattle.uac_flow.specs.FlowStreams.{InStream, after_putting, after_sending_in, sent_in_frames, sent_in_packet, in_after_end, in_level, started_in};
 
 use crate::counting::{is_due, next_count};
 use crate::frames::take_frames;
@@ -86,6 +87,27 @@ impl InFlow {
         ensures room { (i : InStream) → InStands ring.now self.now i → result ≡ ticks.has_room count i }
     {
         RING_FRAMES - ring.level() >= count
+    }
+
+    /// How many frames the next packet has, when so many ticks wait, which give as many frames, and so many frames were sent.
+    pub fn frames_later(&self, ring: &Ring, ticks: u32, sent: u32) -> u32
+        requires ticks { ticks ≤ 128 }
+        requires sent { sent ≤ 2176 }
+        ensures frames { (i : InStream) → InStands ring.now self.now i → result ≡ min ((in_level i + ticks) - sent) i.stream.most }
+        ensures few { sent + result ≤ 2176 }
+    {
+        (ring.level() + ticks)
+            .saturating_sub(sent)
+            .min(self.stream.most)
+    }
+
+    /// So many of the oldest frames are gone: they were sent.
+    pub fn drop_sent(&self, ring: &mut Ring, count: u32)
+        requires sound { IsInFlow ring.old self.now }
+        ensures stands { (i : InStream) → InStands ring.old self.now i → count ≤ in_level i → InStands ring.new self.now (sent_more count i) }
+        ensures sound { IsInFlow ring.new self.now }
+    {
+        ring.drop_oldest(count);
     }
 
     /// Whether the stream's ring is full.

@@ -1,5 +1,5 @@
 // A running stream to the device.
-ghost use Rattle.std.specs.Prelude.{◌≡◌, ℕ, ◌+◌, ◌<◌, ◌≤◌, nat_le, ℤ, List, length, Some, None, IfSome, true};
+ghost use Rattle.std.specs.Prelude.{◌≡◌, ℕ, ◌+◌, ◌-◌, ◌<◌, ◌≤◌, nat_le, ℤ, List, length, Some, None, IfSome, true};
 ghost use Rattle.std.specs.Option.{option_map};
 ghost use Rattle.uac_alt.specs.AltStreams.{stream_fields};
 ghost use Rattle.uac_pcm.specs.Packets.{whole_frames};
@@ -8,6 +8,7 @@ ghost use Rattle.uac_flow.specs.Flows.{CanRun, IsOutFlow, OutStands, ZerosFit};
 ghost use Rattle.uac_units.specs.SampleRows.{HaveTicks, frame_at, row_lengths};
 ghost use Rattle.uac_flow.specs.FlowTicks as ticks;
 ghost use Rattle.uac_flow.specs.FlowTicks.{given_at, out_after_ticks, ready_of};
+ghost use Rattle.uac_flow.specs.FlowWaits.{feedback_at, may_wait};
 ghost use Rattle.uac_flow.specs.FlowStreams as spec;
 ghost use Rattle.uac_flow.specs.FlowStreams.{OutStream, after_packet, after_taking, arrival_of, feedback_of, next_taken, out_level};
 ghost use Rattle.uac_flow.specs.FlowStreams.{out_after_end, after_due_end, started_out, zeros_due};
@@ -198,6 +199,23 @@ impl OutFlow {
         self.target.is_none() || count <= ring.level()
     }
 
+    /// Whether so many ticks may wait: the stream is primed, none of its packets is lost, and each of the ticks finds a frame.
+    pub fn may_wait(&self, ring: &Ring, count: u32) -> bool
+        ensures { (o : OutStream) → OutStands ring.now self.now o → result ≡ may_wait count o }
+    {
+        self.target.is_some() && !self.lost && count <= ring.level()
+    }
+
+    /// Whether the ring has room for all frames of a packet of so many bytes.
+    pub fn takes(&self, ring: &Ring, bytes: u32) -> bool
+        requires sound { IsOutFlow ring.now self.now }
+        ensures { (o : OutStream) (packet : List ℕ) → OutStands ring.now self.now o → length packet ≡ bytes
+            → result ≡ spec.takes_all o packet }
+    {
+        unpacked_frames_are_whole();
+        bytes / (self.stream.format.frame_bytes() as u32) <= RING_FRAMES - ring.level()
+    }
+
     /// Whether the stream is primed and its ring is empty.
     pub fn is_dry(&self, ring: &Ring) -> bool
         ensures { (o : OutStream) → OutStands ring.now self.now o → result ≡ spec.is_dry o }
@@ -259,11 +277,20 @@ impl OutFlow {
         requires sound { IsOutFlow ring.now self.now }
         ensures { (o : OutStream) → OutStands ring.now self.now o → result ≡ feedback_of o }
     {
+        self.feedback_later(ring, 0)
+    }
+
+    /// The report that is due, as `feedback`, when so many ticks wait, which take as many frames.
+    pub fn feedback_later(&self, ring: &Ring, ticks: u32) -> Option<u32>
+        requires sound { IsOutFlow ring.now self.now }
+        ensures { (o : OutStream) → OutStands ring.now self.now o → result ≡ feedback_at (out_level o - ticks) o }
+    {
         if !reports_now(self.stream.period, self.microframes) {
             return None;
         }
+        let level = ring.level().saturating_sub(ticks);
         match self.target {
-            Some(target) => Some(report(&self.stream.nominal, target, ring.level())),
+            Some(target) => Some(report(&self.stream.nominal, target, level)),
             None => Some(self.stream.nominal.f),
         }
     }

@@ -101,6 +101,16 @@ impl Host {
         }
     }
 
+    /// How many bytes the next packet of the stream that an interface runs has; 0 where none runs.
+    pub fn bytes(&self, interface: u8) -> u32
+        ensures { (w : HostWorld) → HostStands self.now w → result ≡ length (packet_of w interface) }
+    {
+        match self.stream_index(interface) {
+            Some(index) => self.host_streams[index].bytes(),
+            None => 0,
+        }
+    }
+
     /// A feedback report of an interface's stream came: its value is in force, clamped between the least and the greatest packet.
     pub fn take_report(&mut self, interface: u8, value: u32)
         ensures stands { (w : HostWorld) → HostStands self.old w → HostStands self.new (with_report interface value w) }

@@ -77,6 +77,16 @@ impl HostStream {
         }
     }
 
+    /// How many bytes the next packet has; 0 where no stream runs.
+    pub(crate) fn bytes(&self) -> u32
+        ensures { (w : HostWorld) → IsKeptStream w self.now → result ≡ length (packet_of w self.now.interface) }
+    {
+        match &self.pace {
+            Some(pace) => pace.bytes(),
+            None => 0,
+        }
+    }
+
     /// Makes `frame` the frame of a number, from 0, of a packet of the stream; false exactly where the packet has no such frame, and then
     /// `frame` stays as it was. Where no stream runs there is none.
     pub(crate) fn hear(&self, packet: &Packet, at: u32, frame: &mut Frame) -> bool

@@ -66,6 +66,18 @@ impl Pace {
         frames_of(&mut self.pacer, self.value, self.stream.service)
     }
 
+    /// How many bytes the packet of the next service interval has.
+    pub(crate) fn bytes(&self) -> u32
+        ensures { result ≡ (self.now.remainder + self.now.stream.service * self.now.value) / 65536
+            * (self.now.stream.channels * self.now.stream.subslot) }
+    {
+        nominal_values_leave_room();
+        packets_and_ticks_are_whole();
+        let mut pacer = self.pacer;
+        let frames = frames_of(&mut pacer, self.value, self.stream.service);
+        frames * self.stream.format.frame_bytes() as u32
+    }
+
     /// A feedback report came: its value is in force, clamped between the least and the greatest packet.
     pub(crate) fn take_report(&mut self, value: u32)
         ensures { self.new ≡ record self.old { value = spec.within_nominal self.old.stream value } }

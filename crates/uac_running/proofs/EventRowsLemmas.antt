@@ -115,7 +115,7 @@ jacks_many domain t p q function is =
 
 -- ---- the world
 
-ticked_function : (domain : ℕ) (tones : Tones) (t : ℕ) (w : DeviceWorld) → (after_tick_times domain tones t w).function ≡ w.function
+pub ticked_function : (domain : ℕ) (tones : Tones) (t : ℕ) (w : DeviceWorld) → (after_tick_times domain tones t w).function ≡ w.function
 unfolding world_after
 ticked_function domain tones t w = ap (λ (v : DeviceWorld). v.function) (world_by_parts domain tones t w)
 

@@ -26,6 +26,7 @@ use Rattle.uac_topology.specs.Function.{FunctionFields}
 use Rattle.uac_mixer.specs.ViewWorld.{IsViewOf, ViewWorld}
 use Rattle.uac_running.specs.RunningWorld.{RunningWorld, streaming_of, jack_with_tone, with_detail, with_deviation, with_streaming, with_jack_tone}
 use Rattle.uac_running.specs.ReportLines.{played_lines}
+pub use Rattle.uac_running.specs.Ahead.{numbered}
 use Rattle.uac_running.specs.Events.{after_all_jacks, domain_microframe, domain_microframes, ends_and_feedback, followed_by, after_jacks, jacks_after_frame, microframe, microframes, next_frame, number_said, of_streams, packets_and_ticks, tick, tick_times}
 use Rattle.uac_running.specs.RunningTransfers.{break_at, with_break}
 use Rattle.uac_running.specs.RunningKept.{RunningFields, RunningStands, RunningStandsBetween, RunningTells, RunningTellsBetween}
@@ -322,10 +323,6 @@ domain_told clock n r is = ap (λ k. tick_times k clock (record r { device = aft
 pub number_line : (r : RunningWorld) (p : RunningFields) (meters : List Reading) → RunningStands p meters (record r { time = at_most_u64 (r.time + 1) })
     → number_said p.detail p.time ≡ number_said r.detail (at_most_u64 (r.time + 1))
 number_line r p meters stands = ap (λ n. number_said n p.time) stands.detail ∙ ap (number_said r.detail) stands.time
-
--- a microframe after its number
-abbrev pub numbered : RunningWorld → RunningWorld
-numbered r = record r { time = at_most_u64 (r.time + 1) }
 
 module _ (marks : List PhraseMark) (r : RunningWorld) where
   abbrev all_of_it : Telling RunningWorld

@@ -16,4 +16,6 @@ pub mod RunningLinesReportLemmas
 pub mod EventTicksLemmas
 pub mod EventRowsLemmas
 pub mod QuietLemmas
+pub mod AheadStandsLemmas
+pub mod AheadLemmas
 pub mod Worked

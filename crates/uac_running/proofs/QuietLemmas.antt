@@ -340,12 +340,6 @@ pub waited : (domain waiting : ℕ) (p q : RunningFields) (shown showing : List 
 waited domain waiting p q shown showing r waits stands =
     subst (RunningStands q showing) (world_ticked waiting domain waits.before ∙ sym waits.done) stands
 
--- where none waits, nothing is to be done
-pub waited_none : (domain waiting : ℕ) (p : RunningFields) (shown : List Reading) (r : RunningWorld) → waiting ≡ 0 → Waits domain waiting p shown r → RunningStands p shown r
-unfolding tick_times
-waited_none domain waiting p shown r zeroth waits =
-    subst (RunningStands p shown) (sym (waits.done ∙ ap (λ (n : ℕ). ticked n domain waits.before) zeroth)) waits.stands
-
 -- the ticks of one microframe more wait
 pub waits_more : (marks : List PhraseMark) (domain left more : ℕ) (p q : RunningFields) (shown : List Reading) (r : RunningWorld) (waits : Waits domain left p shown r)
     → more ≡ next_ticks domain waits.before.device → RunningStands q shown (gone_on domain waits.before) → Waits domain (left + more) q shown (microframe marks r).world

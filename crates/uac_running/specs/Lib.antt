@@ -13,3 +13,4 @@ pub mod TickCounts
 pub mod RunningKept
 pub mod Silence
 pub mod Quiet
+pub mod Ahead

@@ -8,6 +8,8 @@ mod printing;
 /// Printing the report.
 mod report;
 
+/// Microframes whose counts run ahead.
+mod ahead;
 /// The jacks' tones.
 mod jacks;
 /// A law of ticks.

@@ -68,6 +68,9 @@ impl Running {
             self.quiet_microframes(count, domain, rack, meters);
             return Ok(());
         }
+        if let Some(domain) = self.lone_domain(marks) {
+            return self.ahead_microframes(count, marks, domain, rack, meters, sink);
+        }
         self.each_microframe(count, marks, rack, meters, sink)
     }
 
@@ -169,14 +172,12 @@ impl Running {
         ensures { (r : RunningWorld) → Waits domain waiting self.old (readings (λ v x. (⟦<dyn Meter as Meter>⟧ v).reading_of x) meters.old) r
             → RunningStands self.new (readings (λ v x. (⟦<dyn Meter as Meter>⟧ v).reading_of x) meters.new) r }
     {
-        if waiting > 0 {
-            self.tick_rows(waiting, domain, rack, meters);
-        }
+        self.do_ticks(waiting, domain, rack, meters);
     }
 
     /// One microframe.
     #[inline(never)]
-    fn microframe<K: Sink>(
+    pub(crate) fn microframe<K: Sink>(
         &mut self,
         marks: &[Mark],
         rack: &Rack,
@@ -248,7 +249,11 @@ impl Running {
     }
 
     /// The packets to the device.
-    fn out_packets<K: Sink>(&mut self, marks: &[Mark], sink: &mut K) -> Result<(), Failed>
+    pub(crate) fn out_packets<K: Sink>(
+        &mut self,
+        marks: &[Mark],
+        sink: &mut K,
+    ) -> Result<(), Failed>
         ensures tells { (meters : List Reading) (r : RunningWorld) → RunningStands self.old meters r
             → RunningTells (of_streams (out_packets r.detail (map phrase_mark marks.now)) r) self.new meters
             (K.written sink.old) (K.written sink.new) result }
@@ -270,7 +275,7 @@ impl Running {
     }
 
     /// The end of the microframe for each stream.
-    fn end_microframe<K: Sink>(&mut self, sink: &mut K) -> Result<(), Failed>
+    pub(crate) fn end_microframe<K: Sink>(&mut self, sink: &mut K) -> Result<(), Failed>
         ensures tells { (meters : List Reading) (r : RunningWorld) → RunningStands self.old meters r
             → ((interface : ℕ) → ZerosFitIn r.device interface)
             → RunningTells (of_streams (all_ends r.detail) r) self.new meters (K.written sink.old) (K.written sink.new) result }
@@ -292,7 +297,7 @@ impl Running {
     }
 
     /// One microframe more has come.
-    fn pass(&mut self)
+    pub(crate) fn pass(&mut self)
         ensures { self.new ≡ record self.old { time = at_most_u64 (self.old.time + 1) } }
     {
         self.time = self.time.saturating_add(1);
@@ -364,7 +369,7 @@ impl Running {
     }
 
     /// A domain's clock goes on by one microframe; answers how often it ticks. These ticks are counted.
-    fn advance(&mut self, domain: u8) -> u32
+    pub(crate) fn advance(&mut self, domain: u8) -> u32
         ensures stands { (meters : List Reading) (r : RunningWorld) → RunningStands self.old meters r
             → RunningStands self.new meters (record r { device = after_advance domain r.device }) }
         ensures ticks { (meters : List Reading) (r : RunningWorld) → RunningStands self.old meters r → result ≡ next_ticks domain r.device }
@@ -414,7 +419,7 @@ impl Running {
 
     /// So many ticks of a domain at once: its jacks give their next frames, the device ticks, and the meters hear its output jacks. The
     /// renders are counted.
-    fn tick_rows(&mut self, count: u32, domain: u8, rack: &Rack, meters: &mut Meters)
+    pub(crate) fn tick_rows(&mut self, count: u32, domain: u8, rack: &Rack, meters: &mut Meters)
         requires rack { IsFitted (λ v x. (⟦<dyn Unit as Unit>⟧ v).kind_of x) rack.now }
         requires some { 1 ≤ count }
         requires most { count ≤ 128 }
@@ -543,7 +548,7 @@ impl Running {
 }
 
 /// Whether no stream has more than two channels. A few frames of more are moved faster one by one than channel by channel.
-fn has_narrow_streams(function: &Function) -> bool
+pub(crate) fn has_narrow_streams(function: &Function) -> bool
     ensures { result ≡ list_all (λ s. nat_le (channels_of function.now.entities s.terminal) 2) function.now.streams }
 {
     function

@@ -7,6 +7,8 @@ pub mod TellingLemmas
 pub mod StreamingWorldLineLemmas
 pub mod StreamingWorldLemmas
 pub mod StreamingWorldQuietLemmas
+pub mod StreamingWaitsLemmas
+pub mod StreamingReportLemmas
 pub mod FoundRingsLemmas
 pub mod AmongLemmas
 pub mod RoomLemmas

@@ -6,3 +6,4 @@ pub mod StreamingWorld
 pub mod FoundRings
 pub mod Room
 pub mod StreamingKept
+pub mod StreamingWaits

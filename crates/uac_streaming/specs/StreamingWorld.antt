@@ -1,7 +1,7 @@
 -- Streams between a host and a device: what packets, feedback reports and the ends of microframes make of both, and what is said of
 -- them. Profile: the order of events, and what is printed. The direction of an interface is that of its data endpoint (USB 2.0, 9.6.6);
 -- feedback is that of 5.12.4.2.
-use Rattle.std.specs.Prelude.{ℕ, ◌+◌, ◌==◌, ◌&&◌, not, nat_le, Bool, true, false, if◌then◌else◌, ℤ, List, [], ◌∷◌, ◌++◌, map}
+use Rattle.std.specs.Prelude.{ℕ, ◌==◌, ◌&&◌, not, nat_le, Bool, false, if◌then◌else◌, ℤ, List, [], ◌∷◌, ◌++◌, map}
 use Rattle.std.specs.Prelude.{filter, Option, Some, None, is_some}
 use Rattle.std.specs.List.{range_with_len}
 use Rattle.std.specs.Option.{option_map_or}

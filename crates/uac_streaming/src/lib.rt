@@ -2,6 +2,8 @@
 //! as it is printed.
 #![tactic(auto)]
 
+/// Packets and reports while the device's ticks wait.
+mod ahead;
 /// Lines of packets, ticks and reports.
 mod printing;
 /// What the host streams with, and its events.

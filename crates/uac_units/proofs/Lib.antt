@@ -7,3 +7,4 @@ pub mod HearingLemmas
 pub mod Worked
 pub mod RenderingWriteLemmas
 pub mod SampleRowsLemmas
+pub mod MeterRowsLemmas

@@ -12,7 +12,7 @@ use Rattle.std.proofs.Math.Seq.{map-set_same}
 use Rattle.uac_units.specs.declared.jobs.Job.{Job}
 use Rattle.uac_units.specs.declared.jobs.UnitKind.{UnitKind}
 use Rattle.uac_units.specs.declared.meter.MeterKind.{MeterKind}
-use Rattle.uac_units.specs.Hearing.{Reading, after_hearing, value_after_hearing}
+use Rattle.uac_units.specs.Hearing.{Reading, after_hearing}
 use Rattle.uac_units.specs.Rendering.{FitsKind, FitsNumbers, input, job_samples, pins_sample}
 use Rattle.uac_units.specs.SampleRows.{AreRenderedRows, HasSamples, HaveTicks, after_hearing_all, frame_at, frames_of, row_lengths, sample_at}
 
@@ -242,12 +242,3 @@ heard_more ticks rows reading =
 -- what a meter of a kind shows
 abbrev pub shows : MeterKind → ℕ → Reading
 shows kind value = record { kind = kind; value = value }
-
--- one more frame is heard
-pub hears_more : (kind : MeterKind) (ticks : ℕ) (rows : List (List ℤ)) (value before more : ℕ)
-    → shows kind value ≡ after_hearing_all (frames_of ticks rows) (shows kind before)
-    → more ≡ value_after_hearing kind value (frame_at ticks rows)
-    → shows kind more ≡ after_hearing_all (frames_of (ticks + 1) rows) (shows kind before)
-unfolding after_hearing
-hears_more kind ticks rows value before more heard is =
-    ap (shows kind) is ∙ ap (after_hearing (frame_at ticks rows)) heard ∙ sym (heard_more ticks rows (shows kind before))

@@ -8,6 +8,7 @@ mod lanes;
 pub mod laws;
 mod meter;
 mod meter_list;
+mod meter_rows;
 mod meters;
 mod nodes;
 mod plain;

@@ -1,13 +1,11 @@
 // The three meters.
 
-ghost use Rattle.std.specs.Prelude.{◌≡◌, ◌+◌, ◌≤◌, ◌<◌, if◌then◌else◌, unsigned_abs, count_by, length, slice_index_or, pos};
-ghost use Rattle.std.specs.List.{sum_by};
-ghost use Rattle.uac_units.specs.Hearing as spec;
+ghost use Rattle.std.specs.Prelude.{◌≡◌, ◌≤◌, ◌<◌, if◌then◌else◌, unsigned_abs, length, slice_index_or, pos};
 ghost use Rattle.uac_units.specs.Hearing.{after_hearing, is_clipped};
-ghost use Rattle.uac_units.specs.SampleRows.{HaveTicks, frame_at};
 ghost use Rattle.uac_units.specs.declared.meter.MeterKind.TheVariants.{Peak, Clipped, Sum};
 
 use crate::meter::{Meter, MeterKind};
+use crate::meter_rows::{clipped_among, peak_among, sum_among};
 use crate::row::Row;
 use uac_pcm::Frame;
 
@@ -78,14 +76,16 @@ impl Meter for PeakMeter {
                 let right = size_at(samples, 1);
                 self.value = self.value.max(left.max(right) as u64);
             }
-            _ => self.value = self.value.max(peak_of(samples) as u64),
+            _ => self.value = self.value.max(peak_among(samples) as u64),
         }
     }
 
     fn hear_rows(&mut self, ticks: usize, rows: &[Row]) {
-        for tick in 0..ticks {
-            self.value = self.value.max(peak_at(rows, tick) as u64);
+        let mut value = self.value();
+        for row in rows {
+            value = value.max(row.peak(ticks) as u64);
         }
+        self.value = value;
     }
 }
 
@@ -115,9 +115,11 @@ impl Meter for ClippedMeter {
     }
 
     fn hear_rows(&mut self, ticks: usize, rows: &[Row]) {
-        for tick in 0..ticks {
-            self.value = self.value.saturating_add(clipped_at(rows, tick) as u64);
+        let mut value = self.value();
+        for row in rows {
+            value = row.add_clipped(ticks, value);
         }
+        self.value = value;
     }
 }
 
@@ -142,55 +144,17 @@ impl Meter for SumMeter {
                 let right = size_at(samples, 1) as u64;
                 self.value = self.value.saturating_add(left + right);
             }
-            _ => self.value = self.value.saturating_add(sum_of(samples)),
+            _ => self.value = self.value.saturating_add(sum_among(samples)),
         }
     }
 
     fn hear_rows(&mut self, ticks: usize, rows: &[Row]) {
-        for tick in 0..ticks {
-            self.value = self.value.saturating_add(sum_at(rows, tick));
+        let mut value = self.value();
+        for row in rows {
+            value = row.add_sizes(ticks, value);
         }
+        self.value = value;
     }
-}
-
-// The greatest absolute sample of a frame.
-#[inline(never)]
-fn peak_of(samples: &[i32]) -> u32
-    ensures { result ≡ spec.peak_of samples.now }
-{
-    let mut peak = 0;
-    for sample in samples {
-        peak = peak.max(sample.unsigned_abs());
-    }
-    peak
-}
-
-// How many samples of a frame stand at full scale.
-#[inline(never)]
-fn clipped_among(samples: &[i32]) -> u32
-    requires { length samples.now ≤ 32 }
-    ensures { result ≡ count_by is_clipped samples.now }
-{
-    let mut clipped = 0;
-    for sample in samples {
-        if *sample == i32::MAX || *sample == i32::MIN {
-            clipped += 1;
-        }
-    }
-    clipped
-}
-
-// The absolute samples of a frame together.
-#[inline(never)]
-fn sum_of(samples: &[i32]) -> u64
-    requires { length samples.now ≤ 32 }
-    ensures { result ≡ sum_by unsigned_abs samples.now }
-{
-    let mut sum = 0;
-    for sample in samples {
-        sum += sample.unsigned_abs() as u64;
-    }
-    sum
 }
 
 // The sample at a place without its sign.
@@ -213,45 +177,4 @@ fn clips_at(samples: &[i32], at: usize) -> u32
     } else {
         0
     }
-}
-
-// The greatest absolute sample of the frame at a tick.
-fn peak_at(rows: &[Row], tick: usize) -> u32
-    requires { HaveTicks (tick + 1) rows.now }
-    ensures { result ≡ spec.peak_of (frame_at tick rows.now) }
-{
-    let mut peak = 0;
-    for row in rows {
-        peak = peak.max(row.sample(tick).unsigned_abs());
-    }
-    peak
-}
-
-// How many samples of the frame at a tick stand at full scale.
-fn clipped_at(rows: &[Row], tick: usize) -> u32
-    requires few { length rows.now ≤ 32 }
-    requires given { HaveTicks (tick + 1) rows.now }
-    ensures { result ≡ count_by is_clipped (frame_at tick rows.now) }
-{
-    let mut clipped = 0;
-    for row in rows {
-        let sample = row.sample(tick);
-        if sample == i32::MAX || sample == i32::MIN {
-            clipped += 1;
-        }
-    }
-    clipped
-}
-
-// The absolute samples of the frame at a tick together.
-fn sum_at(rows: &[Row], tick: usize) -> u64
-    requires few { length rows.now ≤ 32 }
-    requires given { HaveTicks (tick + 1) rows.now }
-    ensures { result ≡ sum_by unsigned_abs (frame_at tick rows.now) }
-{
-    let mut sum = 0;
-    for row in rows {
-        sum += row.sample(tick).unsigned_abs() as u64;
-    }
-    sum
 }

@@ -1,9 +1,12 @@
 // Samples of one channel, tick by tick.
 
-ghost use Rattle.std.specs.Prelude.{◌≡◌, ◌+◌, ◌*◌, ◌^◌, ◌<◌, ◌≤◌, ◌+ℤ◌, ℕ, IfOk, length, pos, replicate, slice_set, unsigned_abs};
+ghost use Rattle.std.specs.Prelude.{◌≡◌, ◌+◌, ◌*◌, ◌^◌, ◌<◌, ◌≤◌, ◌+ℤ◌, ℕ, IfOk, length, pos, replicate, slice_set, take, unsigned_abs};
 ghost use Rattle.uac_gain.specs.Gain.{nearest_in_32_bits, scaled_sample};
+ghost use Rattle.uac_units.specs.Hearing.{peak_of, value_after_hearing};
 ghost use Rattle.uac_units.specs.SampleRows.{HasSamples, sample_at};
+ghost use Rattle.uac_units.specs.declared.meter.MeterKind.TheVariants.{Clipped, Sum};
 
+use crate::meter_rows::{add_clipped, add_sizes, peak_among};
 use crate::row_loops::{add_samples, copy_samples, fill_samples, saturate_sums, scale_samples};
 use std::alloc::{AllocError, Global};
 use std::marker::Model;
@@ -109,5 +112,29 @@ impl Row {
         ensures length { length self.new ≡ length self.old }
     {
         saturate_sums(sums, from, ticks, self.samples.as_mut_slice());
+    }
+
+    /// The greatest absolute sample of so many ticks.
+    pub(crate) fn peak(&self, ticks: usize) -> u32
+        requires { ticks ≤ length self.now }
+        ensures { result ≡ peak_of (take ticks self.now) }
+    {
+        peak_among(&self.samples.as_slice()[..ticks])
+    }
+
+    /// How many samples of so many ticks stand at full scale, added to a value. One that would pass the greatest u64 stays there.
+    pub(crate) fn add_clipped(&self, ticks: usize, value: u64) -> u64
+        requires { ticks ≤ length self.now }
+        ensures { result ≡ value_after_hearing Clipped value (take ticks self.now) }
+    {
+        add_clipped(&self.samples.as_slice()[..ticks], value)
+    }
+
+    /// The absolute samples of so many ticks added to a value. One that would pass the greatest u64 stays there.
+    pub(crate) fn add_sizes(&self, ticks: usize, value: u64) -> u64
+        requires { ticks ≤ length self.now }
+        ensures { result ≡ value_after_hearing Sum value (take ticks self.now) }
+    {
+        add_sizes(&self.samples.as_slice()[..ticks], value)
     }
 }

@@ -1,4 +1,4 @@
-use Rattle.std.proofs.Common.{◌≡◌, ◌∙◌, ap, sym, subst, refl, Some}
+use Rattle.std.proofs.Common.{◌∙◌, ap, sym, subst, refl, Some}
 use Rattle.std.specs.Option.{option_map}
 use Rattle.uac_device.specs.DeviceKept.{begun_fields}
 use Rattle.uac_running.specs.RunningKept.{RunningFields, RunningStands}

@@ -1,12 +1,15 @@
-use Rattle.std.proofs.Common.{◌≡◌, arith}
+use Rattle.std.proofs.Common.{◌≡◌, arith, take}
 use Rattle.uac_units.specs.Hearing.{value_after_hearing}
-use Rattle.uac_units.specs.SampleRows.{frame_at}
 use Rattle.uac_units.specs.declared.meter.MeterKind.TheVariants.{Clipped}
-use Rattle.uac_units.proofs.SampleRowsLemmas.{hears_more}
+use Rattle.uac_units.proofs.MeterRowsLemmas.{hears_no_row, hears_row}
 use Rattle.uac_units.proofs.meters.ClippedMeterMeter.hear_rows.Goals as goal
 
-pub loop-tick-preserved : goal.loop-tick-preserved
-loop-tick-preserved c =
-    let more : c.saturating_add-self.result ≡ value_after_hearing Clipped c.loop-tick.self.value (frame_at c.loop-tick.tick c.args.rows.now) =
-    omega (arith, c.saturating_add-self.ensures, c.clipped_at.ensures, c.saturating_add-self.type_inv) in
-    hears_more Clipped c.loop-tick.tick c.args.rows.now c.loop-tick.self.value c.args.self.now.value c.saturating_add-self.result c.loop-tick.invariant more
+pub loop-row-init : goal.loop-row-init
+loop-row-init c = hears_no_row Clipped c.args.ticks c.value-value.result c.value-value.type_inv
+
+pub loop-row-preserved : goal.loop-row-preserved
+loop-row-preserved c =
+    let more : c.add_clipped-value.result ≡ value_after_hearing Clipped c.loop-row.value (take c.args.ticks c.row-item.result) =
+    c.add_clipped-value.ensures in
+    hears_row Clipped c.args.ticks c.args.rows.now c.loop-row.row-index c.row-item.result c.loop-row.value c.value-value.result c.add_clipped-value.result
+    c.requires.given (omega arith) c.row-item.is c.value-value.type_inv c.loop-row.invariant more

@@ -1,8 +1,9 @@
-use Rattle.std.proofs.Common.{◌≡◌}
+use Rattle.std.proofs.Common.{◌≡◌, take}
 use Rattle.uac_units.specs.SampleRows.{after_hearing_all, frames_of}
 use Rattle.uac_units.specs.declared.meter.MeterKind.TheVariants.{Clipped}
 use Rattle.uac_units.proofs.SampleRowsLemmas.{shows}
 use Rattle.uac_units.proofs.meters.ClippedMeterMeter.hear_rows.Given as goal
 
-abbrev pub invariant-loop-tick : goal.invariant-loop-tick
-invariant-loop-tick l = shows Clipped l.self.value ≡ after_hearing_all (frames_of l.tick l.rows) (shows Clipped l.initial.self.value)
+abbrev pub invariant-loop-row : goal.invariant-loop-row
+invariant-loop-row l =
+    shows Clipped l.value ≡ after_hearing_all (frames_of l.ticks (take l.row-index l.rows)) (shows Clipped l.initial.value)

@@ -1,0 +1,210 @@
+// Microframes of a running device whose ticks wait while the counts of its streams run ahead.
+ghost use Rattle.std.specs.Prelude.{◌≡◌, ◌+◌, ◌≤◌, ℕ, List, [], true, IfOk, IfSome, map};
+ghost use Rattle.std.specs.List.{list_all};
+ghost use Rattle.uac_units.specs.Fitting.{IsFitted};
+ghost use Rattle.uac_units.specs.Hearing.{Reading};
+ghost use Rattle.uac_units.specs.MeterReadings.{readings};
+ghost use Rattle.uac_edges.specs.Faults.{HasCause};
+ghost use Rattle.uac_script.specs.Line.{phrase_mark};
+ghost use Rattle.uac_device.specs.DeviceWorld.{DeviceWorld, feedback_in, next_ticks};
+ghost use Rattle.uac_device.specs.DeviceWaits.{AreSteady, HaveSent, SentAreThere, after_sent, feedback_later_in};
+ghost use Rattle.uac_transcript.specs.Printing.{Prints};
+ghost use Rattle.uac_streaming.specs.StreamingWorld.{numbers_out};
+ghost use Rattle.uac_streaming.specs.StreamingWaits.{after_reports_of, fits};
+ghost use Rattle.uac_running.specs.RunningWorld.{RunningWorld, streaming_of, with_streaming};
+ghost use Rattle.uac_running.specs.Events.{microframe, microframes};
+ghost use Rattle.uac_running.specs.EventTicks.{met_after, running_after};
+ghost use Rattle.uac_running.specs.RunningKept.{RunningStands, RunningStandsBetween, RunningTellsBetween};
+ghost use Rattle.uac_running.specs.Ahead.{IsAhead, IsLone, gone_ahead, numbered, sent_of, sent_then, ticks_then};
+
+use crate::microframes::has_narrow_streams;
+use crate::running::Running;
+use uac_edges::{Failed, Sink};
+use uac_script::Mark;
+use uac_topology::laws::{functions_are_sound, interfaces_are_numbered};
+use uac_units::{Meter, Meters, Rack, Unit};
+
+/// What waits of a running device: so many ticks of its only domain; and so many frames of its only interface with a stream from it went
+/// in packets, which these ticks make.
+#[derive(Clone, Copy)]
+pub(crate) struct Ahead {
+    ticks: u32,
+    sent: u32,
+}
+
+impl Running {
+    /// The only domain of a device at detail 0 with at most one interface that carries a stream from it, in microframes without losses,
+    /// where its ticks are done faster at once.
+    pub(crate) fn lone_domain(&self, marks: &[Mark]) -> Option<u8>
+        ensures lone { (meters : List Reading) (r : RunningWorld) → RunningStands self.now meters r
+            → IfSome result (λ domain. IsLone domain r) }
+        ensures lossless { IfSome result (λ domain. marks.now ≡ []) }
+    {
+        let function = self.device.function();
+        if self.detail >= 1
+            || marks.len() > 0
+            || !self.streaming.has_one_in()
+            || !has_narrow_streams(function)
+        {
+            return None;
+        }
+        match function.domains() {
+            [domain] => Some(*domain),
+            _ => None,
+        }
+    }
+
+    /// Runs so many microframes of such a device. Where its streams are steady, their counts run ahead and the ticks wait, so that many are
+    /// done at once; none waits at the end.
+    pub(crate) fn ahead_microframes<K: Sink>(
+        &mut self,
+        count: u32,
+        marks: &[Mark],
+        domain: u8,
+        rack: &Rack,
+        meters: &mut Meters,
+        sink: &mut K,
+    ) -> Result<(), Failed>
+        requires rack { IsFitted (λ v x. (⟦<dyn Unit as Unit>⟧ v).kind_of x) rack.now }
+        requires lossless { marks.now ≡ [] }
+        ensures tells { (r : RunningWorld)
+            → RunningStandsBetween self.old (readings (λ v x. (⟦<dyn Meter as Meter>⟧ v).reading_of x) meters.old) r → IsLone domain r
+            → RunningTellsBetween (microframes [] count r) self.new
+            (readings (λ v x. (⟦<dyn Meter as Meter>⟧ v).reading_of x) meters.new)
+            (K.written sink.old) (K.written sink.new) result }
+        ensures cause { HasCause (K.faults sink.old) (K.faults sink.new) result }
+    {
+        let mut ahead = Ahead { ticks: 0, sent: 0 };
+        for _passed in 0..count {
+            ahead = self.ahead_microframe(ahead, marks, domain, rack, meters, sink)?;
+        }
+        self.catch_up(ahead, domain, rack, meters);
+        Ok(())
+    }
+
+    /// One microframe more. Where the streams are steady its counts run ahead; else what waits is done, and it goes as any.
+    fn ahead_microframe<K: Sink>(
+        &mut self,
+        ahead: Ahead,
+        marks: &[Mark],
+        domain: u8,
+        rack: &Rack,
+        meters: &mut Meters,
+        sink: &mut K,
+    ) -> Result<Ahead, Failed>
+        requires rack { IsFitted (λ v x. (⟦<dyn Unit as Unit>⟧ v).kind_of x) rack.now }
+        requires lossless { marks.now ≡ [] }
+        requires ticks { ahead.ticks ≤ 128 }
+        requires sent { ahead.sent ≤ 2176 }
+        ensures tells { (r : RunningWorld)
+            → IsAhead domain ahead.ticks ahead.sent self.old (readings (λ v x. (⟦<dyn Meter as Meter>⟧ v).reading_of x) meters.old) r
+            → Prints (K.written sink.old) (K.written sink.new) result (microframe [] r).lines
+            × IfOk result (λ next. IsAhead domain next.ticks next.sent self.new
+            (readings (λ v x. (⟦<dyn Meter as Meter>⟧ v).reading_of x) meters.new) (microframe [] r).world) }
+        ensures ticks { IfOk result (λ next. next.ticks ≤ 128) }
+        ensures sent { IfOk result (λ next. next.sent ≤ 2176) }
+        ensures cause { HasCause (K.faults sink.old) (K.faults sink.new) result }
+    {
+        functions_are_sound(self.device.function());
+        interfaces_are_numbered();
+        if self.goes_ahead(ahead.ticks, domain) {
+            return self.run_ahead(ahead, marks, domain, sink);
+        }
+        self.catch_up(ahead, domain, rack, meters);
+        self.microframe(marks, rack, meters, sink)?;
+        Ok(Ahead { ticks: 0, sent: 0 })
+    }
+
+    /// Whether the next microframe's counts may run ahead, when so many ticks wait: there is room for its ticks, at most 27, among those
+    /// that are done at once, the streams are steady over all of these, and the packets to the device fit.
+    fn goes_ahead(&self, ticks: u32, domain: u8) -> bool
+        ensures few { result ≡ true → ticks ≤ 101 }
+        ensures steady { (meters : List Reading) (r : RunningWorld) → RunningStands self.now meters r → result ≡ true
+            → AreSteady domain (ticks + 27) r.device }
+        ensures fit { (meters : List Reading) (r : RunningWorld) → RunningStands self.now meters r → result ≡ true
+            → list_all (fits (streaming_of r)) (numbers_out r.device.function) ≡ true }
+    {
+        ticks <= 101
+            && self.device.may_wait(domain, ticks + 27)
+            && self.streaming.all_fit(&self.device)
+    }
+
+    /// The counts of one microframe, whose ticks wait: its packets, of which those from the device are counted alone, the clock, the end
+    /// of the microframe, and the reports. It says nothing.
+    fn run_ahead<K: Sink>(
+        &mut self,
+        ahead: Ahead,
+        marks: &[Mark],
+        domain: u8,
+        sink: &mut K,
+    ) -> Result<Ahead, Failed>
+        requires lossless { marks.now ≡ [] }
+        requires ticks { ahead.ticks ≤ 101 }
+        requires sent { ahead.sent ≤ 2176 }
+        ensures tells { (meters : List Reading) (r : RunningWorld) → RunningStands self.old meters r → IsLone domain r
+            → AreSteady domain (ahead.ticks + 27) r.device → list_all (fits (streaming_of r)) (numbers_out r.device.function) ≡ true
+            → Prints (K.written sink.old) (K.written sink.new) result []
+            × IfOk result (λ next. RunningStands self.new meters (gone_ahead domain ahead.ticks ahead.sent (numbered r))) }
+        ensures ticks { (meters : List Reading) (r : RunningWorld) → RunningStands self.old meters r → IsLone domain r
+            → IfOk result (λ next. next.ticks ≡ ticks_then domain ahead.ticks (numbered r)) }
+        ensures sent { (meters : List Reading) (r : RunningWorld) → RunningStands self.old meters r → IsLone domain r
+            → IfOk result (λ next. next.sent ≡ sent_then ahead.ticks ahead.sent (numbered r)) }
+        ensures few_ticks { IfOk result (λ next. next.ticks ≤ ahead.ticks + 27) }
+        ensures few_sent { IfOk result (λ next. next.sent ≤ 2176) }
+        ensures cause { HasCause (K.faults sink.old) (K.faults sink.new) result }
+    {
+        self.pass();
+        self.out_packets(marks, sink)?;
+        let sent = self
+            .streaming
+            .sent_after(&self.device, ahead.ticks, ahead.sent);
+        let ticks = ahead.ticks + self.advance(domain);
+        self.end_microframe(sink)?;
+        self.give_feedback_later(ticks);
+        Ok(Ahead { ticks, sent })
+    }
+
+    /// The reports of the device as it is when so many ticks that wait are done.
+    fn give_feedback_later(&mut self, ticks: u32)
+        ensures { (meters : List Reading) (r : RunningWorld) (later : DeviceWorld) → RunningStands self.old meters r
+            → later.function ≡ r.device.function
+            → ((interface : ℕ) → feedback_in later interface ≡ feedback_later_in r.device interface ticks)
+            → RunningStands self.new meters (with_streaming r (after_reports_of later (streaming_of r))) }
+    {
+        self.streaming.give_feedback_later(&self.device, ticks);
+    }
+
+    /// Does what waits.
+    fn catch_up(&mut self, ahead: Ahead, domain: u8, rack: &Rack, meters: &mut Meters)
+        requires rack { IsFitted (λ v x. (⟦<dyn Unit as Unit>⟧ v).kind_of x) rack.now }
+        requires ticks { ahead.ticks ≤ 128 }
+        ensures { (r : RunningWorld)
+            → IsAhead domain ahead.ticks ahead.sent self.old (readings (λ v x. (⟦<dyn Meter as Meter>⟧ v).reading_of x) meters.old) r
+            → RunningStands self.new (readings (λ v x. (⟦<dyn Meter as Meter>⟧ v).reading_of x) meters.new) r }
+    {
+        self.do_ticks(ahead.ticks, domain, rack, meters);
+        self.drop_sent(ahead.sent);
+    }
+
+    /// Does so many ticks of a domain at once, if any.
+    pub(crate) fn do_ticks(&mut self, count: u32, domain: u8, rack: &Rack, meters: &mut Meters)
+        requires rack { IsFitted (λ v x. (⟦<dyn Unit as Unit>⟧ v).kind_of x) rack.now }
+        requires few { count ≤ 128 }
+        ensures { (r : RunningWorld)
+            → RunningStands self.old (readings (λ v x. (⟦<dyn Meter as Meter>⟧ v).reading_of x) meters.old) r
+            → met_after domain count r ≡ r.met
+            → RunningStands self.new (readings (λ v x. (⟦<dyn Meter as Meter>⟧ v).reading_of x) meters.new) (running_after domain count r) }
+    {
+        if count > 0 {
+            self.tick_rows(count, domain, rack, meters);
+        }
+    }
+
+    /// So many frames of the only interface with a stream from the device are gone: they were sent.
+    fn drop_sent(&mut self, sent: u32)
+        ensures { (meters : List Reading) (r : RunningWorld) → RunningStands self.old meters r → SentAreThere (sent_of sent r) r.device
+            → RunningStands self.new meters (record r { device = after_sent (sent_of sent r) r.device }) }
+    {
+        self.streaming.drop_sent(&mut self.device, sent);
+    }
+}

@@ -1,0 +1,38 @@
+-- Streams of a device whose ticks wait while counts run ahead: what of a microframe's packets and reports is known before the ticks are
+-- done. Profile.
+use Rattle.std.specs.Prelude.{ℕ, ◌+◌, ◌==◌, ◌||◌, not, Bool, if◌then◌else◌, List, [], ◌∷◌}
+use Rattle.uac_device.specs.DeviceWorld.{DeviceWorld, is_due_in}
+use Rattle.uac_device.specs.DeviceTicks.{Tones}
+use Rattle.uac_device.specs.DeviceWaits.{frames_later_in, settled, takes_in}
+use Rattle.uac_host.specs.HostCalls.{packet_of}
+use Rattle.uac_streaming.specs.StreamingWorld.{StreamingWorld, all_feedback, feedback_turn}
+
+-- with another device
+abbrev pub with_device : DeviceWorld → StreamingWorld → StreamingWorld
+with_device device w = record w { device = device }
+
+-- the streams when so many ticks that waited are done, and so many frames were sent
+abbrev pub streams_settled : ℕ → Tones → ℕ → (ℕ → ℕ) → StreamingWorld → StreamingWorld
+streams_settled domain tones n sent w = with_device (settled domain tones n sent w.device) w
+
+-- an interface's packet to the device fits its ring, where it is due
+abbrev pub fits : StreamingWorld → ℕ → Bool
+fits w interface = not (is_due_in w.device interface) || takes_in w.device interface (packet_of w.host interface)
+
+-- of the first of these interfaces so many frames were sent
+unfoldable pub sent_on : List ℕ → ℕ → ℕ → ℕ
+sent_on [] sent k = 0
+sent_on (n ∷ ns) sent k = if k == n then sent else 0
+
+-- so many are sent when it had its packet from the device, where that is due, while so many ticks wait
+unfoldable pub sent_after : List ℕ → ℕ → ℕ → DeviceWorld → ℕ
+sent_after [] ticks sent w = sent
+sent_after (n ∷ ns) ticks sent w = if is_due_in w n then sent + frames_later_in w n ticks sent else sent
+
+-- the report that a device gives on an interface, to streams beside another
+abbrev pub after_report_of : DeviceWorld → ℕ → StreamingWorld → StreamingWorld
+after_report_of device interface w = with_device w.device (feedback_turn 0 [] interface (with_device device w)).world
+
+-- the reports that a device gives, to streams beside another
+unfoldable pub after_reports_of : DeviceWorld → StreamingWorld → StreamingWorld
+after_reports_of device w = with_device w.device (all_feedback 0 [] (with_device device w)).world

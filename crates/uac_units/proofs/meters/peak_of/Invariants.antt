@@ -1,6 +1,0 @@
-use Rattle.std.specs.Prelude.{◌≡◌, take}
-use Rattle.uac_units.specs.Hearing.{peak_of}
-use Rattle.uac_units.proofs.meters.peak_of.Given as goal
-
-abbrev pub invariant-loop-sample : goal.invariant-loop-sample
-invariant-loop-sample l = l.peak ≡ peak_of (take l.sample-index l.samples)
