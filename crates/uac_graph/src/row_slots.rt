@@ -205,6 +205,10 @@ fn write_tones(rows: &mut [Row], ticks: usize, tone: Tone, place: u64)
     ensures frames { (tick : ℕ) → tick < ticks → frame_at tick rows.new ≡ tone_frame (length rows.old) tone (at_most_u64 (place + tick)) }
     ensures lengths { row_lengths rows.new ≡ row_lengths rows.old }
 {
+    if let Tone::Silent = tone {
+        hush_rows(rows, ticks);
+        return;
+    }
     let mut frame: Frame = ArrayVec::new();
     silence(&mut frame, rows.len() as u8);
     for tick in 0..ticks {

@@ -8,3 +8,4 @@ pub mod Worked
 pub mod RenderingWriteLemmas
 pub mod SampleRowsLemmas
 pub mod MeterRowsLemmas
+pub mod SilentRowsLemmas

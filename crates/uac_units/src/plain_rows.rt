@@ -1,12 +1,13 @@
 // The units as they stand in the definitions, at several ticks: one row after the other.
 
-ghost use Rattle.std.specs.Prelude.{◌≡◌, ◌+◌, ◌*◌, ◌^◌, ◌<◌, ◌≤◌, ℕ, length, get_or, []};
+ghost use Rattle.std.specs.Prelude.{◌≡◌, ◌+◌, ◌*◌, ◌^◌, ◌<◌, ◌≤◌, ℕ, length, get_or, pos, true, []};
 ghost use Rattle.uac_units.specs.declared.jobs.UnitKind.TheVariants.{Mixer, Feature};
 ghost use Rattle.uac_units.specs.Rendering.{FitsKind, pins_sample};
 ghost use Rattle.uac_units.specs.SampleRows.{AreRenderedRows, HasSamples, HaveTicks, frame_at, row_lengths, sample_at};
 
 use crate::jobs::{Job, UnitKind};
 use crate::row::Row;
+use crate::row_frames::hush_rows;
 use crate::steps::Steps;
 
 /// How many ticks of a mixer are summed up at a time.
@@ -72,7 +73,20 @@ fn scale_rows(job: &Job, ticks: usize, inputs: &[Row], out: &mut [Row])
     }
 }
 
-// Makes rows those of a mixer: each the saturated sums of all inputs, each scaled by the gain of its node.
+// Whether the samples of so many ticks are known to be 0 in all of these rows.
+fn are_silent(rows: &[Row], ticks: usize) -> bool
+    ensures { result ≡ true → (channel : ℕ) → HasSamples ticks (λ tick. pos 0) (get_or rows.now channel []) }
+{
+    for row in rows {
+        if !row.is_silent(ticks) {
+            return false;
+        }
+    }
+    true
+}
+
+// Makes rows those of a mixer: each the saturated sums of all inputs, each scaled by the gain of its node. What it makes of silence is
+// silence.
 fn mix_rows(job: &Job, ticks: usize, inputs: &[Row], out: &mut [Row])
     requires fits { FitsKind Mixer job.now (frame_at 0 inputs.now) }
     requires given { HaveTicks ticks inputs.now }
@@ -82,6 +96,10 @@ fn mix_rows(job: &Job, ticks: usize, inputs: &[Row], out: &mut [Row])
         → HasSamples ticks (λ tick. pins_sample Mixer job.now (frame_at tick inputs.now) channel) (get_or out.new channel []) }
     ensures lengths { row_lengths out.new ≡ row_lengths out.old }
 {
+    if are_silent(inputs, ticks) {
+        hush_rows(out, ticks);
+        return;
+    }
     for channel in 0..out.len() {
         mix_row(job, ticks, inputs, channel, &mut out[channel]);
     }

@@ -1,6 +1,6 @@
 // Samples of one channel, tick by tick.
 
-ghost use Rattle.std.specs.Prelude.{◌≡◌, ◌+◌, ◌*◌, ◌^◌, ◌<◌, ◌≤◌, ◌+ℤ◌, ℕ, IfOk, length, pos, replicate, slice_set, take, unsigned_abs};
+ghost use Rattle.std.specs.Prelude.{◌≡◌, ◌+◌, ◌*◌, ◌^◌, ◌<◌, ◌≤◌, ◌+ℤ◌, ℕ, IfOk, length, pos, replicate, slice_set, take, true, unsigned_abs};
 ghost use Rattle.uac_gain.specs.Gain.{nearest_in_32_bits, scaled_sample};
 ghost use Rattle.uac_units.specs.Hearing.{peak_of, value_after_hearing};
 ghost use Rattle.uac_units.specs.SampleRows.{HasSamples, sample_at};
@@ -15,14 +15,19 @@ use std::marker::Model;
 #[derive(Drop)]
 pub struct Row {
     samples: Vec<i32>,
+    /// So many of the first samples are known to be 0: what needs no samples looks at none.
+    silent: usize,
 }
 
 impl Model for Row {
-    ghost use Rattle.std.specs.Prelude.{List, ℤ};
+    ghost use Rattle.std.specs.Prelude.{List, ℤ, pos};
+    ghost use Rattle.uac_units.specs.SampleRows.{HasSamples};
 
     ghost Value = { List ℤ };
 
     ghost view = { λ row. row.samples.items };
+
+    ghost invariant = { λ row. HasSamples row.silent (λ tick. pos 0) row.samples.items };
 }
 
 impl Row {
@@ -32,7 +37,10 @@ impl Row {
     {
         let mut samples = Vec::new(alloc);
         samples.resize(ticks, 0)?;
-        Ok(Row { samples })
+        Ok(Row {
+            samples,
+            silent: ticks,
+        })
     }
 
     /// How many ticks there are.
@@ -40,6 +48,13 @@ impl Row {
         ensures { result ≡ length self.now }
     {
         self.samples.len()
+    }
+
+    /// Whether the samples of so many ticks are known to be 0.
+    pub(crate) fn is_silent(&self, ticks: usize) -> bool
+        ensures { result ≡ true → HasSamples ticks (λ tick. pos 0) self.now }
+    {
+        self.silent >= ticks
     }
 
     /// The sample at a tick.
@@ -55,6 +70,9 @@ impl Row {
         requires { tick < length self.old }
         ensures { self.new ≡ slice_set self.old tick sample }
     {
+        if sample != 0 {
+            self.silent = self.silent.min(tick);
+        }
         self.samples[tick] = sample;
     }
 
@@ -64,7 +82,24 @@ impl Row {
         ensures samples { HasSamples ticks (λ tick. sample) self.new }
         ensures length { length self.new ≡ length self.old }
     {
+        if sample == 0 {
+            self.hush(ticks);
+            return;
+        }
+        self.silent = 0;
         fill_samples(sample, ticks, self.samples.as_mut_slice());
+    }
+
+    // Makes the samples of so many ticks silence.
+    fn hush(&mut self, ticks: usize)
+        requires taken { ticks ≤ length self.old }
+        ensures samples { HasSamples ticks (λ tick. pos 0) self.new }
+        ensures length { length self.new ≡ length self.old }
+    {
+        if ticks > self.silent {
+            fill_samples(0, ticks, self.samples.as_mut_slice());
+            self.silent = ticks;
+        }
     }
 
     /// Makes the samples of so many ticks those of another row.
@@ -74,6 +109,11 @@ impl Row {
         ensures samples { HasSamples ticks (λ tick. sample_at tick from.now) self.new }
         ensures length { length self.new ≡ length self.old }
     {
+        if from.silent >= ticks {
+            self.hush(ticks);
+            return;
+        }
+        self.silent = 0;
         copy_samples(from.samples.as_slice(), ticks, self.samples.as_mut_slice());
     }
 
@@ -84,6 +124,11 @@ impl Row {
         ensures samples { HasSamples ticks (λ tick. scaled_sample (scaled_sample (sample_at tick from.now) own) master) self.new }
         ensures length { length self.new ≡ length self.old }
     {
+        if from.silent >= ticks {
+            self.hush(ticks);
+            return;
+        }
+        self.silent = 0;
         scale_samples(
             from.samples.as_slice(),
             ticks,
@@ -100,6 +145,9 @@ impl Row {
         requires room { (tick : ℕ) → tick < ticks → unsigned_abs (sample_at tick sums.old) ≤ 2 ^ 40 }
         ensures { HasSamples ticks (λ tick. sample_at tick sums.old +ℤ scaled_sample (sample_at (from + tick) self.now) gain) sums.new }
     {
+        if self.silent >= from + ticks {
+            return;
+        }
         add_samples(self.samples.as_slice(), from, ticks, gain, sums);
     }
 
@@ -111,6 +159,7 @@ impl Row {
         ensures samples { (tick : ℕ) → tick < ticks → sample_at (from + tick) self.new ≡ nearest_in_32_bits (sample_at tick sums.now) }
         ensures length { length self.new ≡ length self.old }
     {
+        self.silent = self.silent.min(from);
         saturate_sums(sums, from, ticks, self.samples.as_mut_slice());
     }
 
@@ -119,6 +168,9 @@ impl Row {
         requires { ticks ≤ length self.now }
         ensures { result ≡ peak_of (take ticks self.now) }
     {
+        if self.silent >= ticks {
+            return 0;
+        }
         peak_among(&self.samples.as_slice()[..ticks])
     }
 
@@ -127,6 +179,9 @@ impl Row {
         requires { ticks ≤ length self.now }
         ensures { result ≡ value_after_hearing Clipped value (take ticks self.now) }
     {
+        if self.silent >= ticks {
+            return value;
+        }
         add_clipped(&self.samples.as_slice()[..ticks], value)
     }
 
@@ -135,6 +190,9 @@ impl Row {
         requires { ticks ≤ length self.now }
         ensures { result ≡ value_after_hearing Sum value (take ticks self.now) }
     {
+        if self.silent >= ticks {
+            return value;
+        }
         add_sizes(&self.samples.as_slice()[..ticks], value)
     }
 }

@@ -1,8 +1,10 @@
-use Rattle.std.proofs.Common.{◌≡◌, ◌∙◌, ◌+◌, ap, arith, sym, length, List, ℕ, ℤ, inl, inr}
+use Rattle.std.proofs.Common.{◌≡◌, ◌∙◌, ◌∷◌, ◌+◌, ap, arith, map, refl, replicate, sym, length, List, ℕ, ℤ, inl, inr, pos, suc, zero}
 use Rattle.std.proofs.lemmas.Bool.{cases_lt}
 use Rattle.std.proofs.lemmas.Grind.{common_steps}
 use Rattle.std.proofs.lemmas.List.FromFn.{length-map-range_with_len}
-use Rattle.std.specs.List.{refill}
+use Rattle.std.specs.List.{range_with_len, refill}
+use Rattle.uac_pcm.specs.declared.tones.Tone.{Tone}
+use Rattle.uac_pcm.specs.declared.tones.Tone.TheVariants.{Silent}
 use Rattle.uac_pcm.specs.Tones.{tone_frame, tone_sample}
 use Rattle.uac_units.specs.Hearing.{at_most_u64}
 use Rattle.uac_units.specs.SampleRows.{frame_at}
@@ -11,6 +13,19 @@ use Rattle.uac_graph.proofs.row_slots.write_tones.Goals as goal
 
 refilled : (n : ℕ) (xs ws : List ℤ) → length ws ≡ n → refill n xs ws ≡ ws
 refilled n xs ws same = grind (arith, common_steps)
+
+-- a silent tone is zeros
+zeros : (place first channels : ℕ) → map (tone_sample Silent place) (range_with_len first channels) ≡ replicate channels (pos 0)
+zeros place first zero = refl
+zeros place first (suc channels) = ap (λ (rest : List ℤ). pos 0 ∷ rest) (zeros place (first + 1) channels)
+
+pub returns-in-Silent-clause-frames : goal.returns-in-Silent-clause-frames
+returns-in-Silent-clause-frames c = λ tick early.
+    let channels = length c.args.rows.now in
+    let place = at_most_u64 (c.args.place + tick) in
+    c.hush_rows.ensures.frames tick early
+    ∙ sym (zeros place 0 channels)
+    ∙ ap (λ (tone : Tone). tone_frame channels tone place) (sym c.in-Silent.is)
 
 pub write_frame-requires-clause-inside : goal.write_frame-requires-clause-inside
 write_frame-requires-clause-inside c =
