@@ -1,8 +1,8 @@
 -- A number's digits are its numeral.
-use Rattle.std.proofs.Common.{◌≡◌, ℕ, zero, suc, ◌^◌, ◌+◌, ◌<◌, [], false, true, Bool, if◌then◌else◌, ℤ, pos, negsuc, SFits, w32, ◌∷◌, decimal, unsigned_abs, sym, ap, ◌∙◌, arith, add-one}
+use Rattle.std.proofs.Common.{◌≡◌, ℕ, zero, suc, ◌^◌, ◌+◌, ◌/◌, ◌%◌, ◌<◌, ◌≤◌, [], false, true, Bool, if◌then◌else◌, ℤ, pos, negsuc, SFits, w32, ◌∷◌, ◌++◌, codes, decimal, unsigned_abs, refl, sym, ap, ◌∙◌, arith, add-one}
 use Rattle.std.specs.Prelude.{int_lt}
 use Rattle.std.proofs.lemmas.Bool.{cond-false, ltb-true, ne_eqb}
-use Rattle.std.proofs.lemmas.Fmt.{decimal-digits_of, decimal_digit}
+use Rattle.std.proofs.lemmas.Fmt.{decimal-digits_of, decimal_digit, decimal_step}
 use Rattle.uac_edges.specs.Numerals.{natural, numeral}
 
 pub decimal-natural : (n : ℕ) → n < 2 ^ 64 → decimal n ≡ natural n
@@ -32,3 +32,16 @@ signed-numeral z fits false h = sym (positive-numeral z fits h)
 -- one digit
 pub decimal_of_one : (n : ℕ) → n < 10 → decimal n ≡ (48 + n) ∷ []
 decimal_of_one n h = decimal_digit n h
+
+-- two digits
+pub decimal_of_two : (n : ℕ) → 10 ≤ n → n < 100 → decimal n ≡ (48 + n / 10) ∷ (48 + n % 10) ∷ []
+decimal_of_two n large small = rw (decimal_step n large (omega arith), decimal_digit (n / 10) (omega arith))
+
+-- the last digit stands after the digits of a tenth
+pub decimal_and_last : (n : ℕ) → 10 ≤ n → n < 1000 → decimal n ≡ decimal (n / 10) ++ (48 + n % 10) ∷ []
+decimal_and_last n large small = decimal_step n large (omega arith)
+
+-- the numeral of 0
+pub numeral_of_zero : numeral (pos 0) ≡ codes "0"
+unfolding numeral natural
+numeral_of_zero = refl

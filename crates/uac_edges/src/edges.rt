@@ -61,10 +61,27 @@ pub trait Sink {
 
 /// Gives the whole text, piece by piece, however little each call takes. `Ok` means that no call
 /// met a fault. After `Failed` a front of the text was appended. An empty text gives nothing.
+#[inline]
 pub fn give_all<K: Sink>(sink: &mut K, text: &[u8]) -> Result<(), Failed>
     ensures written { Writes (K.written sink.old) (K.written sink.new) result text.now }
     ensures cause { HasCause (K.faults sink.old) (K.faults sink.new) result }
     ensures empty { text.now ≡ [] → sink.new ≡ sink.old }
+{
+    if text.is_empty() {
+        return Ok(());
+    }
+    let first = sink.give(text)?;
+    if first == text.len() {
+        return Ok(());
+    }
+    give_rest(sink, &text[first..])
+}
+
+// Gives what the first call left of a text: most sinks take a short text whole.
+#[inline(never)]
+fn give_rest<K: Sink>(sink: &mut K, text: &[u8]) -> Result<(), Failed>
+    ensures written { Writes (K.written sink.old) (K.written sink.new) result text.now }
+    ensures cause { HasCause (K.faults sink.old) (K.faults sink.new) result }
 {
     let mut rest = text;
     while !rest.is_empty() {

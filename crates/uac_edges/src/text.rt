@@ -24,6 +24,7 @@ impl<const N: usize> Model for TextLine<N> {
 
 impl<const N: usize> TextLine<N> {
     /// An empty text.
+    #[inline]
     pub fn new() -> Self
         ensures { result ≡ [] }
     {
@@ -33,6 +34,7 @@ impl<const N: usize> TextLine<N> {
     }
 
     /// Appends `text`, for which there has to be room.
+    #[inline]
     pub fn push(&mut self, text: &[u8])
         requires { length self.old + length text.now ≤ N }
         ensures text { self.new ≡ self.old ++ text.now }
@@ -45,6 +47,7 @@ impl<const N: usize> TextLine<N> {
     }
 
     /// Appends a byte, for which there has to be room.
+    #[inline]
     pub fn push_byte(&mut self, byte: u8)
         requires { length self.old + 1 ≤ N }
         ensures text { self.new ≡ self.old ++ byte ∷ [] }
@@ -62,8 +65,39 @@ impl<const N: usize> TextLine<N> {
     {
         if number < 10 {
             self.push_byte(digit(number));
+        } else if number < 1000 {
+            self.push_few_digits(number);
         } else {
             self.push_digits(number);
+        }
+    }
+
+    // Appends the digits of a number of two or three.
+    #[inline(never)]
+    fn push_few_digits(&mut self, number: u64)
+        requires large { 10 ≤ number }
+        requires small { number < 1000 }
+        requires room { length self.old + 3 ≤ N }
+        ensures text { self.new ≡ self.old ++ decimal number }
+        ensures len { length self.new ≤ length self.old + 3 }
+    {
+        self.push_below_hundred(number / 10);
+        self.push_byte(digit(number % 10));
+    }
+
+    // Appends one digit or two.
+    #[inline]
+    fn push_below_hundred(&mut self, number: u64)
+        requires small { number < 100 }
+        requires room { length self.old + 2 ≤ N }
+        ensures text { self.new ≡ self.old ++ decimal number }
+        ensures len { length self.new ≤ length self.old + 2 }
+    {
+        if number < 10 {
+            self.push_byte(digit(number));
+        } else {
+            self.push_byte(digit(number / 10));
+            self.push_byte(digit(number % 10));
         }
     }
 
@@ -79,6 +113,7 @@ impl<const N: usize> TextLine<N> {
     }
 
     /// Appends `number` in decimal digits, with a minus sign where it is negative, for at most 21 of which there has to be room.
+    #[inline]
     pub fn push_signed(&mut self, number: i32)
         requires { length self.old + 21 ≤ N }
         ensures text { self.new ≡ self.old ++ numeral number }
@@ -106,6 +141,7 @@ impl<const N: usize> TextLine<N> {
     }
 
     /// Lends the text.
+    #[inline]
     pub fn as_bytes(&self) -> &[u8]
         ensures text { result.now ≡ self.now }
         ensures fits { length result.now ≤ N }

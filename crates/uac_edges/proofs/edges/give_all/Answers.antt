@@ -1,29 +1,17 @@
-use Rattle.std.proofs.Common.{◌≡◌, ℕ, ◌-◌, ◌<◌, List, [], ◌++◌, length, take, drop, arith, append_assoc, ap, sym, ◌∙◌, length-append, rules}
+use Rattle.std.proofs.Common.{◌≡◌, ℕ, ◌-◌, List, ◌++◌, length, take, drop, ap, subst, ◌∙◌}
 use Rattle.std.proofs.lemmas.List.{take_rest, take-append-drop}
-use Rattle.uac_edges.proofs.WritingLemmas.{Appends-twice}
+use Rattle.uac_edges.specs.Writing.{Writes}
+use Rattle.uac_edges.proofs.WritingLemmas.{Writes-after}
 use Rattle.uac_edges.proofs.edges.give_all.Goals as goal
 
--- The text is what was given, what this call took of the rest, and what it left.
-given_more : (text given rest : List ℕ) (n : ℕ) → text ≡ given ++ rest → text ≡ (given ++ take n rest) ++ take (length rest - n) (drop n rest)
-given_more text given rest n parts =
-    parts ∙ ap (λ back. given ++ back) (sym (take-append-drop n rest)) ∙ sym (append_assoc given (take n rest) (drop n rest))
-    ∙ ap (λ back. (given ++ take n rest) ++ back) (sym (take_rest rest n))
+-- The text is what the first call took of it, and what it left.
+first_and_rest : (text : List ℕ) (n : ℕ) → take n text ++ take (length text - n) (drop n text) ≡ text
+first_and_rest text n = ap (λ back. take n text ++ back) (take_rest text n) ∙ take-append-drop n text
 
--- While some of it is left, the text isn't empty.
-some_left : (text given rest : List ℕ) → 0 < length rest → text ≡ given ++ rest → text ≡ [] → ⊥
-some_left text given rest some parts empty =
-    let count : length text ≡ length (given ++ rest) = ap length parts in
-    let none : length text ≡ 0 = ap length empty in
-    omega (arith, length-append given rest)
-
-pub loop-rest-preserved : goal.loop-rest-preserved
-loop-rest-preserved g c =
-    let before = c.loop-rest.invariant in
-    let told = c.in_ok-given.ensures in
-    record {
-      given = before.given ++ take c.in_ok-given.given c.loop-rest.rest.now;
-      parts = given_more c.args.text.now before.given c.loop-rest.rest.now c.in_ok-given.given before.parts;
-      appended = Appends-twice _ _ _ _ _ before.appended told.bytes;
-      faultless = told.cause.faultless ∙ before.faultless;
-      untouched = λ empty. absurd (some_left c.args.text.now before.given c.loop-rest.rest.now (search rules) before.parts empty);
-    }
+pub returns-clause-written : goal.returns-clause-written
+returns-clause-written g c =
+    let text = c.args.text.now in
+    let n = c.in_ok-first.first in
+    subst (λ (whole : List ℕ). Writes (g.K.Sink.written c.args.sink.now) (g.K.Sink.written c.give_rest.new.sink) c.give_rest.result whole) (first_and_rest text n)
+    (Writes-after (g.K.Sink.written c.args.sink.now) (g.K.Sink.written c.give.new.self) (g.K.Sink.written c.give_rest.new.sink) c.give_rest.result
+    (take n text) (take (length text - n) (drop n text)) c.in_ok-first.ensures.bytes c.give_rest.ensures.written)
