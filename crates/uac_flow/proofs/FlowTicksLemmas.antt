@@ -1,11 +1,11 @@
 -- What several ticks make of one stream: the frames that it gives or has, and when it is found dry or full.
-use Rattle.std.proofs.Common.{◌≡◌, ◌∙◌, sym, refl, ap, subst, add-one, arith, get_or-drop, ℕ, zero, suc, ◌+◌, ◌-◌, ◌<◌, ◌≤◌, ◌==◌, ◌&&◌, not, Bool, true, false, if◌then◌else◌, ℤ, List, [], ◌∷◌, ◌++◌, Option, Some, None, length, get_or, map, min, nat_le, nat_lt, pos, replicate, is_some, inl, inr, append_assoc}
+use Rattle.std.proofs.Common.{◌≡◌, ◌∙◌, sym, refl, ap, subst, add-one, arith, get_or-drop, ℕ, zero, suc, ◌+◌, ◌-◌, ◌<◌, ◌≤◌, false, ℤ, List, [], ◌∷◌, ◌++◌, Option, Some, None, length, get_or, map, min, nat_le, pos, replicate, inl, inr, append_assoc}
 use Rattle.std.specs.List.{range_with_len}
 use Rattle.std.proofs.lemmas.Bool.{cases_lt, eq-eqb, le-leb, ne_eqb}
 use Rattle.std.proofs.lemmas.Bool.Decides.{leb_tells}
 use Rattle.std.proofs.lemmas.List.FromFn.{length-map-range_with_len, map-range_with_len_more}
 use Rattle.std.proofs.lemmas.List.{length-append, append-nil}
-use Rattle.uac_flow.specs.FlowStreams.{InStream, OutStream, after_putting, after_taking, in_level, is_dry, is_full, next_taken, out_level}
+use Rattle.uac_flow.specs.FlowStreams.{InStream, OutStream, after_putting, after_taking, in_level, is_dry, is_full, next_taken}
 use Rattle.uac_ring.specs.Rings.{Holds, ring_frames}
 use Rattle.uac_flow.specs.Flows.{InStands}
 use Rattle.uac_flow.specs.declared.inward.InFlow.{InFlow}

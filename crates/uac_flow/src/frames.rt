@@ -5,11 +5,24 @@ ghost use Rattle.uac_ring.specs.Rings.{ring_frames};
 ghost use Rattle.uac_flow.specs.Flows.{AreFrames};
 
 use arrayvec::ArrayVec;
-use uac_pcm::{Format, Frame, Packet, resize, silence};
+use uac_pcm::{Format, Frame, Packet, are_zeros, resize, silence};
 use uac_ring::Ring;
 
 /// Puts the frames of a packet into a ring that has room for them.
 pub(crate) fn put_frames(ring: &mut Ring, format: &Format, packet: &Packet)
+    requires { length ring.old + whole_frames format.now.channels format.now.subslot packet.now.items ≤ ring_frames }
+    ensures put { ring.new ≡ ring.old ++ frames_of_bytes format.now.channels format.now.subslot format.now.bits packet.now.items }
+    ensures frames { AreFrames format.now.channels ring.old → AreFrames format.now.channels ring.new }
+{
+    if are_zeros(packet.as_slice()) {
+        put_zeros(ring, format.channels, format.frames_in(packet));
+    } else {
+        put_each(ring, format, packet);
+    }
+}
+
+// Puts the frames of a packet into a ring that has room for them, each by itself.
+fn put_each(ring: &mut Ring, format: &Format, packet: &Packet)
     requires { length ring.old + whole_frames format.now.channels format.now.subslot packet.now.items ≤ ring_frames }
     ensures put { ring.new ≡ ring.old ++ frames_of_bytes format.now.channels format.now.subslot format.now.bits packet.now.items }
     ensures frames { AreFrames format.now.channels ring.old → AreFrames format.now.channels ring.new }

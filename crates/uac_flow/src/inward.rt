@@ -1,9 +1,9 @@
 // A running stream from the device.
-ghost use Rattle.std.specs.Prelude.{◌≡◌, ◌+◌, ◌-◌, ◌≤◌, ℕ, ℤ, List, length, min};
+ghost use Rattle.std.specs.Prelude.{◌≡◌, ◌+◌, ◌-◌, ◌≤◌, ◌∷◌, [], ℕ, ℤ, List, length, min};
 ghost use Rattle.uac_alt.specs.AltStreams.{stream_fields};
 ghost use Rattle.uac_ring.specs.Rings.{ring_frames};
 ghost use Rattle.uac_flow.specs.Flows.{CanRun, IsInFlow, InStands};
-ghost use Rattle.uac_units.specs.SampleRows.{HaveTicks, frame_at};
+ghost use Rattle.uac_units.specs.SampleRows.{HaveTicks, frame_at, sample_at};
 ghost use Rattle.uac_flow.specs.FlowTicks as ticks;
 ghost use Rattle.uac_flow.specs.FlowTicks.{IsHeld, in_after_ticks};
 ghost use Rattle.uac_flow.specs.FlowStreams as spec;
@@ -65,8 +65,49 @@ impl InFlow {
         let _ = ring.put(frame);
     }
 
+    // Puts the frame of one sample that its terminal played into the ring, where there is room.
+    #[tactic(auto, unfolding(crate::specs::FlowStreams::after_putting))]
+    fn put_mono(&self, ring: &mut Ring, only: i32)
+        requires sound { IsInFlow ring.old self.now }
+        requires channels { self.now.stream.format.channels ≡ 1 }
+        ensures stands { (i : InStream) → InStands ring.old self.now i → InStands ring.new self.now (after_putting (only ∷ []) i) }
+        ensures sound { IsInFlow ring.new self.now }
+    {
+        let _ = ring.put_mono(only);
+    }
+
     /// Puts the frames that its terminal played at so many ticks into the ring, while there is room.
     pub fn put_rows(&self, ring: &mut Ring, ticks: u32, rows: &[Row])
+        requires sound { IsInFlow ring.old self.now }
+        requires channels { length rows.now ≡ self.now.stream.format.channels }
+        requires inside { HaveTicks ticks rows.now }
+        ensures stands { (i : InStream) → InStands ring.old self.now i
+            → InStands ring.new self.now (in_after_ticks (λ tick. frame_at tick rows.now) ticks i) }
+        ensures sound { IsInFlow ring.new self.now }
+    {
+        if rows.len() == 1 {
+            self.put_only(ring, ticks, &rows[0]);
+        } else {
+            self.put_each(ring, ticks, rows);
+        }
+    }
+
+    // Puts the frames of so many ticks into the ring, while there is room, where they have one sample.
+    fn put_only(&self, ring: &mut Ring, ticks: u32, row: &Row)
+        requires sound { IsInFlow ring.old self.now }
+        requires channels { self.now.stream.format.channels ≡ 1 }
+        requires inside { ticks ≤ length row.now }
+        ensures stands { (i : InStream) → InStands ring.old self.now i
+            → InStands ring.new self.now (in_after_ticks (λ tick. sample_at tick row.now ∷ []) ticks i) }
+        ensures sound { IsInFlow ring.new self.now }
+    {
+        for tick in 0..ticks {
+            self.put_mono(ring, row.sample(tick as usize));
+        }
+    }
+
+    // Puts the frames of so many ticks into the ring, while there is room, whatever samples they have.
+    fn put_each(&self, ring: &mut Ring, ticks: u32, rows: &[Row])
         requires sound { IsInFlow ring.old self.now }
         requires channels { length rows.now ≡ self.now.stream.format.channels }
         requires inside { HaveTicks ticks rows.now }

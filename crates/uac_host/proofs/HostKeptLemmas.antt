@@ -1,6 +1,7 @@
 -- What is kept of a track and of a stream.
-use Rattle.std.proofs.Common.{◌≡◌, ℕ, ◌+◌, ◌-◌, ◌*◌, ◌/◌, ◌%◌, ◌<◌, ◌≤◌, ◌==◌, Bool, true, false, if◌then◌else◌, ℤ, List, [], ◌∷◌, length, take, drop, set, get_or, sum, replicate, position, slice_get, Some, None, sym, ap, ◌∙◌, arith, inl, inr, eq-eqb, ne_eqb, length-append}
-use Rattle.std.specs.List.{All, flat_map, position_or_len}
+use Rattle.std.proofs.Common.{◌≡◌, ℕ, ◌+◌, ◌-◌, ◌*◌, ◌/◌, ◌%◌, ◌<◌, ◌≤◌, ◌==◌, Bool, true, false, if◌then◌else◌, ℤ, List, [], ◌∷◌, ◌++◌, map, pos, refl, length, take, drop, set, get_or, sum, replicate, position, slice_get, Some, None, sym, ap, ◌∙◌, arith, inl, inr, eq-eqb, ne_eqb, length-append}
+use Rattle.std.proofs.Math.Seq.{drop-nil, take-nil}
+use Rattle.std.specs.List.{All, flat_map, position_or_len, range_with_len}
 use Rattle.std.proofs.lemmas.Bool.{cases_eq}
 use Rattle.std.proofs.lemmas.List.{length-replicate}
 use Rattle.std.proofs.lemmas.List.Elements.{All-drop}
@@ -15,7 +16,10 @@ use Rattle.uac_rate.specs.PacketSizes.{frames_in_packet}
 use Rattle.uac_host.specs.declared.host_streams.HostStream.{HostStream}
 use Rattle.uac_host.specs.HostWorld.{Pace, Track}
 use Rattle.uac_host.specs.HostFields.{TrackFields}
-use Rattle.uac_pcm.specs.Tones.{tone_frame}
+use Rattle.uac_pcm.specs.Tones.{tone_sample, tone_frame}
+use Rattle.uac_pcm.specs.declared.tones.Tone.{Tone}
+use Rattle.uac_pcm.specs.declared.tones.Tone.TheVariants.{Silent}
+use Rattle.uac_pcm.proofs.ZerosLemmas.{map_same}
 use Rattle.uac_host.specs.HostCalls.{track_after_frames, next_frames, next_size, used_next}
 use Rattle.uac_host.specs.HostKept.{kept_track, stream_on}
 use Rattle.uac_host.proofs.HostCallsLemmas.{tone_frame_again}
@@ -90,6 +94,39 @@ next_sounds channels count t fields samples even kept same short sounds =
       both.0 ∙ ap (λ (frame : List ℤ). frame ∷ []) (sym frame),
       ap (λ (f : TrackFields). let k : TrackFields = record { samples = f.samples; tone = f.tone; place = (f.place + 1) % 4294967296 } in k) kept ∙ sym both.1,
     )
+
+-- none waits, and the tone is silence
+pub silence_follows : (channels n : ℕ) (t : Track) (fields : TrackFields) → 1 ≤ channels → All (λ frame. length frame ≡ channels) t.waiting
+    → fields ≡ kept_track t → fields.samples ≡ [] → fields.tone ≡ Silent
+    → (next_frames channels n t ≡ replicate n (replicate channels (pos 0)))
+    × (record { samples = fields.samples; tone = fields.tone; place = (fields.place + n) % 4294967296 } ≡ kept_track (track_after_frames n t))
+unfolding next_frames track_after_frames
+silence_follows channels n t fields some even kept none silent =
+    let flatly : flat t.waiting ≡ [] = sym (ap (λ (f : TrackFields). f.samples) kept) ∙ none in
+    let tone : t.tone ≡ Silent = sym (ap (λ (f : TrackFields). f.tone) kept) ∙ silent in
+    let both = along t.waiting even flatly tone in (
+      both.0,
+      ap (λ (f : TrackFields). let k : TrackFields = record { samples = f.samples; tone = f.tone; place = (f.place + n) % 4294967296 } in k) kept ∙ both.1,
+    ) where
+      zero_frame : (place : ℕ) → t.tone ≡ Silent → tone_frame channels t.tone place ≡ replicate channels (pos 0)
+      zero_frame place tone =
+          ap (λ (x : Tone). tone_frame channels x place) tone ∙ map_same (tone_sample Silent place) (pos 0) 0 channels (λ channel. refl)
+
+      along : (w : List (List ℤ)) → All (λ frame. length frame ≡ channels) w → flat w ≡ [] → t.tone ≡ Silent
+          → (next_frames channels n (record { waiting = w; tone = t.tone; place = t.place }) ≡ replicate n (replicate channels (pos 0)))
+          × (record { samples = flat w; tone = t.tone; place = (t.place % 4294967296 + n) % 4294967296 } ≡ kept_track (track_after_frames n (record { waiting = w; tone = t.tone; place = t.place })))
+      along [] even flatly tone =
+          let all : n - 0 ≡ n = omega arith in
+          let place : (t.place % 4294967296 + n) % 4294967296 ≡ (t.place + (n - 0)) % 4294967296 = omega arith in (
+            ap (λ (fs : List (List ℤ)). fs ++ map (tone_frame channels t.tone) (range_with_len t.place (n - 0))) (take-nil n)
+                ∙ ap (λ (k : ℕ). map (tone_frame channels t.tone) (range_with_len t.place k)) all
+                ∙ map_same (tone_frame channels t.tone) (replicate channels (pos 0)) t.place n (λ at. zero_frame at tone),
+            ap (λ (k : ℕ). let s : TrackFields = record { samples = []; tone = t.tone; place = k } in s) place
+                ∙ ap (λ (fs : List (List ℤ)). let s : TrackFields = record { samples = flat fs; tone = t.tone; place = (t.place + (n - 0)) % 4294967296 } in s) (sym (drop-nil n)),
+          )
+      along (f ∷ fs) even flatly tone =
+          let first : length f ≡ channels = even 0 f (omega arith) in
+          absurd (omega (arith, length-append f (flat fs), ap length flatly))
 
 -- frames that are left have as many samples
 pub even_after : (channels n : ℕ) (t : Track) → All (λ frame. length frame ≡ channels) t.waiting → All (λ frame. length frame ≡ channels) (track_after_frames n t).waiting

@@ -1,8 +1,9 @@
 // What waits to be sent on an interface.
-ghost use Rattle.std.specs.Prelude.{◌≡◌, ◌≤◌, ◌<◌, ◌+◌, ◌*◌, ◌%◌, ◌++◌, ◌∷◌, [], ℕ, ℤ, List, length, take, drop, OnOk, OnErr};
+ghost use Rattle.std.specs.Prelude.{◌≡◌, ◌↔◌, IsTrue, ◌≤◌, ◌<◌, ◌+◌, ◌*◌, ◌%◌, ◌++◌, ◌∷◌, [], ℕ, ℤ, List, length, take, drop, OnOk, OnErr};
 ghost use Rattle.std.specs.List.{All};
 ghost use Rattle.arrayvec.specs.ArrayVec.{array_vec_len};
 ghost use Rattle.uac_pcm.specs.Packets.{bytes_of_frames};
+ghost use Rattle.uac_pcm.specs.declared.tones.Tone.TheVariants as tones;
 ghost use Rattle.std.specs.VecDeque.{deque_capacity};
 ghost use Rattle.uac_host.specs.HostWorld as world;
 ghost use Rattle.uac_host.specs.HostCalls.{track_after_frames, next_frames};
@@ -13,7 +14,7 @@ use std::alloc::Global;
 use std::collections::VecDeque;
 use std::marker::Model;
 use uac_descriptor::NoMemory;
-use uac_pcm::{Format, Frame, Packet, Tone, resize, silence};
+use uac_pcm::{Format, Frame, Packet, Tone, fill_zeros, resize, silence};
 
 /// The samples of the frames that wait, channel after channel, and the tone after them. A tone's samples come again after 2^32
 /// places, so its place wraps there.
@@ -79,6 +80,28 @@ impl Track {
 
     /// Makes the packet so many of the next frames, packed in place of what is there.
     pub(crate) fn fill(&mut self, frames: u32, format: &Format, packet: &mut Packet)
+        requires { frames * (format.now.channels * format.now.subslot) ≤ 3072 }
+        ensures stands { (t : world.Track) → All (λ frame. length frame ≡ format.now.channels) t.waiting → self.old ≡ kept_track t
+            → (packet.new.items ≡ bytes_of_frames format.now.subslot format.now.bits (next_frames format.now.channels frames t))
+            × (self.new ≡ kept_track (track_after_frames frames t)) }
+    {
+        if self.is_silent() {
+            self.place = self.place.wrapping_add(frames);
+            fill_zeros(packet, frames as usize * format.frame_bytes());
+        } else {
+            self.fill_each(frames, format, packet);
+        }
+    }
+
+    // Whether all the next frames are silent: none waits, and the tone is silence.
+    fn is_silent(&self) -> bool
+        ensures { IsTrue result ↔ ((self.now.samples ≡ []) × (self.now.tone ≡ tones.Silent)) }
+    {
+        self.samples.is_empty() && matches!(self.tone, Tone::Silent)
+    }
+
+    // Makes the packet so many of the next frames, each by itself.
+    fn fill_each(&mut self, frames: u32, format: &Format, packet: &mut Packet)
         requires { frames * (format.now.channels * format.now.subslot) ≤ 3072 }
         ensures stands { (t : world.Track) → All (λ frame. length frame ≡ format.now.channels) t.waiting → self.old ≡ kept_track t
             → (packet.new.items ≡ bytes_of_frames format.now.subslot format.now.bits (next_frames format.now.channels frames t))

@@ -4,4 +4,5 @@ pub mod SubslotsLemmas
 pub mod FramesLemmas
 pub mod TonesFrameLemmas
 pub mod PacketsLemmas
+pub mod ZerosLemmas
 mod Worked

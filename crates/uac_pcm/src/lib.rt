@@ -8,7 +8,7 @@ mod subslots;
 mod tones;
 
 use arrayvec::ArrayVec;
-pub use blanks::{resize, silence};
+pub use blanks::{are_zeros, fill_zeros, resize, silence};
 pub use formats::Format;
 pub use tones::Tone;
 

@@ -40,12 +40,13 @@ impl Tone {
         requires { length samples.old ≤ 32 }
         ensures { samples.new ≡ map (tone_sample self.now place) (range_with_len 0 (length samples.old)) }
     {
-        // Most frames have one channel or two.
+        // Most frames have one channel or two. Of a copy, which no write can change, the kind is asked once.
+        let tone = *self;
         if samples.len() == 1 {
-            samples[0] = self.sample(place, 0);
+            samples[0] = tone.sample(place, 0);
         } else if samples.len() == 2 {
-            samples[0] = self.sample(place, 0);
-            samples[1] = self.sample(place, 1);
+            samples[0] = tone.sample(place, 0);
+            samples[1] = tone.sample(place, 1);
         } else {
             self.write_each(place, samples);
         }
@@ -56,8 +57,10 @@ impl Tone {
         requires { length samples.old ≤ 32 }
         ensures { samples.new ≡ map (tone_sample self.now place) (range_with_len 0 (length samples.old)) }
     {
+        // With a copy that no write can change, the compiler makes a loop for each kind of tone.
+        let tone = *self;
         for channel in 0..samples.len() {
-            samples[channel] = self.sample(place, channel as u32);
+            samples[channel] = tone.sample(place, channel as u32);
         }
     }
 }

@@ -65,6 +65,17 @@ impl Ring {
         self.put_wide(frame)
     }
 
+    /// Appends a frame of one sample; `Full` exactly where the ring holds all that it can, and then it stays as it was.
+    pub fn put_mono(&mut self, only: i32) -> Result<(), Full>
+        ensures full { IsErr result ↔ (length self.old ≡ ring_frames) }
+        ensures appended { OnOk result (self.new ≡ self.old ++ (only ∷ []) ∷ []) }
+        ensures unchanged { OnErr result (self.new ≡ self.old) }
+        ensures holds { (came : List (List ℤ)) (gone : ℕ) → Holds came gone self.old
+            → OnOk result (Holds (came ++ (only ∷ []) ∷ []) gone self.new) }
+    {
+        self.push(mono(only))
+    }
+
     // Appends a frame; `Full` exactly where the ring holds all that it can, and then it stays as it was.
     #[inline]
     fn push(&mut self, frame: Frame) -> Result<(), Full>
@@ -78,10 +89,24 @@ impl Ring {
         }
     }
 
+    // Appends a copy of a frame of more channels than two; `Full` exactly where the ring holds all that it can, and then it stays as it was.
+    #[inline(never)]
+    fn put_wide(&mut self, frame: &Frame) -> Result<(), Full>
+        ensures full { IsErr result ↔ (length self.old ≡ ring_frames) }
+        ensures appended { OnOk result (self.new ≡ self.old ++ frame.now.items ∷ []) }
+        ensures unchanged { OnErr result (self.new ≡ self.old) }
+    {
+        // The samples of the widest frame are an array, which is copied at once.
+        if let Ok(samples) = <[i32; 32]>::try_from(frame.as_slice()) {
+            return self.push(ArrayVec::from(samples));
+        }
+        self.put_piecewise(frame)
+    }
+
     // Appends a copy of a frame, whose samples are written where an empty frame was put; `Full` exactly where the ring holds all that it
     // can, and then it stays as it was.
     #[inline(never)]
-    fn put_wide(&mut self, frame: &Frame) -> Result<(), Full>
+    fn put_piecewise(&mut self, frame: &Frame) -> Result<(), Full>
         ensures full { IsErr result ↔ (length self.old ≡ ring_frames) }
         ensures appended { OnOk result (self.new ≡ self.old ++ frame.now.items ∷ []) }
         ensures unchanged { OnErr result (self.new ≡ self.old) }

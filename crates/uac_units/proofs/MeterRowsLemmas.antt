@@ -1,6 +1,6 @@
 -- Rows heard one after the other show what the frames of their ticks show.
-use Rattle.std.proofs.Common.{◌≡◌, ◌∙◌, refl, sym, ap, arith, ℕ, zero, suc, ◌+◌, ◌^◌, ◌<◌, ◌≤◌, max, ℤ, pos, List, [], ◌∷◌, ◌++◌, cond, length, take, get_or, unsigned_abs}
-use Rattle.std.specs.List.{fold}
+use Rattle.std.proofs.Common.{◌≡◌, ◌∙◌, refl, sym, ap, arith, ℕ, zero, suc, ◌+◌, ◌^◌, ◌<◌, ◌≤◌, max, ℤ, pos, negsuc, List, [], ◌∷◌, ◌++◌, cond, count_by, length, take, get_or, unsigned_abs}
+use Rattle.std.specs.List.{fold, sum_by}
 use Rattle.std.proofs.lemmas.List.{map-append, take_more}
 use Rattle.std.proofs.lemmas.List.Sums.{fold-append, sum_by-append}
 use Rattle.uac_units.specs.declared.meter.MeterKind.{MeterKind}
@@ -44,6 +44,25 @@ heard-parts front back reading =
 heard-none : (reading : Reading) → reading.value < 2 ^ 64 → after_hearing [] reading ≡ reading
 unfolding after_hearing
 heard-none reading fits = ap (λ (v : ℕ). record { kind = reading.kind; value = v }) (value-of_none reading.kind reading.value fits)
+
+-- ---- zeros
+
+all_silent : (x : ℤ) (xs : List ℤ) → peak_of (x ∷ xs) ≡ 0 → (unsigned_abs x ≡ 0) × (peak_of xs ≡ 0)
+all_silent x xs silent =
+    let all = peak_from (max 0 (unsigned_abs x)) xs in
+    (omega (arith, all, silent), omega (arith, all, silent))
+
+pub none_clipped : (xs : List ℤ) → peak_of xs ≡ 0 → count_by is_clipped xs ≡ 0
+none_clipped [] silent = refl
+none_clipped (pos zero ∷ xs) silent = none_clipped xs (all_silent (pos zero) xs silent).1
+none_clipped (pos (suc n) ∷ xs) silent = absurd (omega (arith, (all_silent (pos (suc n)) xs silent).0))
+none_clipped (negsuc n ∷ xs) silent = absurd (omega (arith, (all_silent (negsuc n) xs silent).0))
+
+pub nothing_added : (xs : List ℤ) → peak_of xs ≡ 0 → sum_by unsigned_abs xs ≡ 0
+nothing_added [] silent = refl
+nothing_added (pos zero ∷ xs) silent = nothing_added xs (all_silent (pos zero) xs silent).1
+nothing_added (pos (suc n) ∷ xs) silent = absurd (omega (arith, (all_silent (pos (suc n)) xs silent).0))
+nothing_added (negsuc n ∷ xs) silent = absurd (omega (arith, (all_silent (negsuc n) xs silent).0))
 
 -- ---- all frames of some ticks
 

@@ -1,6 +1,6 @@
 // What meters make of samples in a row: those of a frame, or those of one channel tick by tick.
 
-ghost use Rattle.std.specs.Prelude.{◌≡◌, ◌≤◌, count_by, length, unsigned_abs};
+ghost use Rattle.std.specs.Prelude.{◌≡◌, ◌≤◌, count_by, length, unsigned_abs, IsTrue};
 ghost use Rattle.std.specs.List.{sum_by};
 ghost use Rattle.uac_units.specs.Hearing.{is_clipped, peak_of, value_after_hearing};
 ghost use Rattle.uac_units.specs.declared.meter.MeterKind.TheVariants.{Clipped, Sum};
@@ -20,9 +20,27 @@ pub(crate) fn peak_among(samples: &[i32]) -> u32
     peak
 }
 
+// Whether samples, of which there are some, are known to be 0. Where the first isn't, the others aren't looked at.
+fn are_silent(samples: &[i32]) -> bool
+    ensures { IsTrue result → peak_of samples.now ≡ 0 }
+{
+    samples.len() > 0 && samples[0] == 0 && peak_among(samples) == 0
+}
+
 /// How many samples stand at full scale.
-#[inline(never)]
 pub(crate) fn clipped_among(samples: &[i32]) -> u32
+    requires { length samples.now ≤ 65536 }
+    ensures { result ≡ count_by is_clipped samples.now }
+{
+    if are_silent(samples) {
+        return 0;
+    }
+    count_clipped(samples)
+}
+
+// How many samples stand at full scale, one by one.
+#[inline(never)]
+fn count_clipped(samples: &[i32]) -> u32
     requires { length samples.now ≤ 65536 }
     ensures { result ≡ count_by is_clipped samples.now }
 {
@@ -36,8 +54,19 @@ pub(crate) fn clipped_among(samples: &[i32]) -> u32
 }
 
 /// The absolute samples together.
-#[inline(never)]
 pub(crate) fn sum_among(samples: &[i32]) -> u64
+    requires { length samples.now ≤ 65536 }
+    ensures { result ≡ sum_by unsigned_abs samples.now }
+{
+    if are_silent(samples) {
+        return 0;
+    }
+    add_up(samples)
+}
+
+// The absolute samples together, one by one.
+#[inline(never)]
+fn add_up(samples: &[i32]) -> u64
     requires { length samples.now ≤ 65536 }
     ensures { result ≡ sum_by unsigned_abs samples.now }
 {

@@ -5,6 +5,6 @@ use Rattle.uac_pcm.proofs.tones.Tone.write_each.Given as goal
 
 abbrev pub invariant-loop-channel : goal.invariant-loop-channel
 invariant-loop-channel l = record {
-  sounds : take l.channel l.samples ≡ map (tone_sample l.self l.place) (range_with_len 0 l.channel);
+  sounds : take l.channel l.samples ≡ map (tone_sample l.tone l.place) (range_with_len 0 l.channel);
   len : length l.samples ≡ length l.initial.samples;
 }

@@ -2,7 +2,7 @@ use Rattle.uac_flow.specs.Flows.{IsInFlow, InStands}
 use Rattle.uac_flow.specs.FlowStreams.{InStream}
 use Rattle.uac_flow.specs.FlowTicks.{in_after_ticks}
 use Rattle.uac_units.specs.SampleRows.{frame_at}
-use Rattle.uac_flow.proofs.inward.InFlow.put_rows.Given as goal
+use Rattle.uac_flow.proofs.inward.InFlow.put_each.Given as goal
 
 abbrev pub invariant-loop-tick : goal.invariant-loop-tick
 invariant-loop-tick l =

@@ -1,7 +1,7 @@
 -- There was room for one more frame, and one more is there.
 use Rattle.std.proofs.Common.{◌≡◌, ◌∙◌, ◌+◌, ◌<◌, ◌++◌, [], ◌∷◌, ℤ, List, length, map, ap, arith, refl, sym}
 use Rattle.std.proofs.lemmas.List.{length-append, length-map, map-append}
-use Rattle.uac_ring.proofs.ring.Ring.put_wide.Goals as goal
+use Rattle.uac_ring.proofs.ring.Ring.put_piecewise.Goals as goal
 
 pub invariant_of-self-2 : goal.invariant_of-self-2
 invariant_of-self-2 c =

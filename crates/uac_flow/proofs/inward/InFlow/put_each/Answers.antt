@@ -1,8 +1,7 @@
-use Rattle.std.proofs.Common.{ℕ, List, ℤ}
 use Rattle.uac_flow.specs.FlowTicks.{in_after_ticks}
 use Rattle.uac_units.specs.SampleRows.{frame_at}
 use Rattle.uac_flow.proofs.FlowTicksLemmas.{put_next, put_none}
-use Rattle.uac_flow.proofs.inward.InFlow.put_rows.Goals as goal
+use Rattle.uac_flow.proofs.inward.InFlow.put_each.Goals as goal
 
 pub loop-tick-init : goal.loop-tick-init
 loop-tick-init c = (

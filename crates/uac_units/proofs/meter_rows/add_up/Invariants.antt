@@ -1,6 +1,6 @@
 use Rattle.std.specs.Prelude.{◌≡◌, ◌≤◌, ◌*◌, unsigned_abs, take}
 use Rattle.std.specs.List.{sum_by}
-use Rattle.uac_units.proofs.meter_rows.sum_among.Given as goal
+use Rattle.uac_units.proofs.meter_rows.add_up.Given as goal
 
 abbrev pub invariant-loop-sample : goal.invariant-loop-sample
 invariant-loop-sample l =

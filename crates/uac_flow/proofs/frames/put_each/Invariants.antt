@@ -1,7 +1,7 @@
 use Rattle.std.proofs.Common.{◌≡◌, ◌++◌, ◌*◌}
 use Rattle.std.specs.Slice.Iter.{chunks_exact_rest, chunks_exact_size}
 use Rattle.uac_pcm.specs.Packets.{frames_of_bytes}
-use Rattle.uac_flow.proofs.frames.put_frames.Given as goal
+use Rattle.uac_flow.proofs.frames.put_each.Given as goal
 
 abbrev pub invariant-loop-bytes : goal.invariant-loop-bytes
 invariant-loop-bytes l =

@@ -4,7 +4,7 @@ use Rattle.uac_pcm.specs.Packets.{bytes_of_frames}
 use Rattle.uac_host.specs.HostWorld.{Track}
 use Rattle.uac_host.specs.HostCalls.{track_after_frames, next_frames}
 use Rattle.uac_host.specs.HostKept.{kept_track}
-use Rattle.uac_host.proofs.tracks.Track.fill.Given as goal
+use Rattle.uac_host.proofs.tracks.Track.fill_each.Given as goal
 
 abbrev pub invariant-loop-number : goal.invariant-loop-number
 invariant-loop-number l = record {
