@@ -12,6 +12,7 @@ use Rattle.uac_topology_rules.specs.Table.{at, nothing, index_of}
 use Rattle.uac_topology.specs.Function.{FunctionFields}
 use Rattle.uac_topology.specs.FunctionKept.{AreNumbered, HaveChannels}
 use Rattle.uac_graph.specs.Meaning.{entity}
+use Rattle.uac_graph.specs.TickRows.{RowsById}
 use Rattle.uac_graph.specs.Wiring.{AreWiresOf, Frames, frame_on}
 use Rattle.uac_graph.proofs.LinksLemmas.{entity_past, index_or_none}
 use Rattle.uac_graph.proofs.WiringTerminalLemmas.{input_signal}
@@ -87,6 +88,18 @@ device_with_wires device wires device_streams is fitting same = record {
   clocks = is.clocks;
   phases = is.phases;
   ports = same ∙ is.ports;
+}
+
+-- and with the rows of other ticks
+pub device_with_rows : (device : DeviceFields) (rows : RowsById) → IsDevice device → IsDevice (record device { rows = rows })
+device_with_rows device rows is = record {
+  store = is.store;
+  interfaces = is.interfaces;
+  wires = is.wires;
+  domains = is.domains;
+  clocks = is.clocks;
+  phases = is.phases;
+  ports = is.ports;
 }
 
 -- there are as many device streams as interfaces

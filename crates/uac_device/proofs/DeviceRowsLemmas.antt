@@ -24,12 +24,12 @@ use Rattle.uac_device.specs.InterfaceStreams.{changed_where}
 use Rattle.uac_device.specs.DeviceWorld.{DeviceWorld, after_frames, entity_in, is_input_jack, is_jack}
 use Rattle.uac_device.specs.DeviceKept.{DeviceFields, DeviceStands, IsDevice}
 use Rattle.uac_device.specs.DeviceStreams.{DeviceStreamsStand, frame_given_by, ports}
-use Rattle.uac_device.specs.DeviceTicks.{after_tick_times, heard_at, heard_by_ticks, readings_after}
+use Rattle.uac_device.specs.DeviceTicks.{HoldPlayed, after_tick_times, heard_at, heard_by_ticks, readings_after}
 use Rattle.uac_device.specs.DeviceTurns.{frames_heard, jacks_of}
 use Rattle.uac_device.specs.Jacks.{jack_after, next_frame, tone_with, tones_of}
 use Rattle.uac_device.specs.Linked.{AreLinked}
 use Rattle.uac_device.proofs.DeviceKeptTickLemmas.{input_channels}
-use Rattle.uac_device.proofs.DeviceTicksStandLemmas.{AreForJacks, AreRenderedTicks, TicksTurned, heard_new, ticks_stand}
+use Rattle.uac_device.proofs.DeviceTicksStandLemmas.{AreForJacks, AreRenderedTicks, TicksTurned, ends_new, heard_new, ticks_stand}
 use Rattle.uac_device.proofs.DeviceWorldInputLemmas.{apart}
 
 -- ---- rows
@@ -170,10 +170,10 @@ module _ (device : DeviceFields) (jacks : List Jack) (w : DeviceWorld) (domain :
 
   -- the device stands for the world after these ticks
   pub rows_stand : (ticks tick : ℕ) → tick + 1 ≡ ticks → RowsTurned device jacks domain ticks tick first given mid new wires between device_streams
-      → DeviceStands (record device { wires = wires; device_streams = device_streams }) (after_tick_times domain (tones_of domain jacks) ticks w)
+      → DeviceStands (record device { wires = wires; device_streams = device_streams; rows = new }) (after_tick_times domain (tones_of domain jacks) ticks w)
   rows_stand zero tick more turned = absurd (omega (arith, more))
   rows_stand (suc last) tick more turned =
-      ticks_stand device (tones_of domain jacks) w domain last (λ t. frames_at t given) (λ t. frames_at t mid) (λ t. frames_at t new) wires between device_streams numbered
+      ticks_stand device (tones_of domain jacks) w domain last (λ t. frames_at t given) (λ t. frames_at t mid) (λ t. frames_at t new) wires new between device_streams numbered
       linked have is stands for_jacks
       (turned_here last
       (subst (λ (n : ℕ). RowsTurned device jacks domain (suc last) n first given mid new wires between device_streams) (omega (arith, more)) turned))
@@ -183,10 +183,21 @@ module _ (device : DeviceFields) (jacks : List Jack) (w : DeviceWorld) (domain :
       → (t : ℕ) → t < ticks → frames_heard (frames_at t new) domain (jacks_of device.function.entities) ≡ heard_at domain (tones_of domain jacks) w t
   rows_heard zero tick more turned = absurd (omega (arith, more))
   rows_heard (suc last) tick more turned =
-      heard_new device (tones_of domain jacks) w domain last (λ t. frames_at t given) (λ t. frames_at t mid) (λ t. frames_at t new) wires between device_streams numbered
+      heard_new device (tones_of domain jacks) w domain last (λ t. frames_at t given) (λ t. frames_at t mid) (λ t. frames_at t new) wires new between device_streams numbered
       linked have is stands for_jacks
       (turned_here last
       (subst (λ (n : ℕ). RowsTurned device jacks domain (suc last) n first given mid new wires between device_streams) (omega (arith, more)) turned))
+
+  -- and the rows hold what was played
+  pub rows_hold : (ticks tick : ℕ) → tick + 1 ≡ ticks → RowsTurned device jacks domain ticks tick first given mid new wires between device_streams
+      → HoldPlayed domain (tones_of domain jacks) ticks w new
+  rows_hold zero tick more turned = absurd (omega (arith, more))
+  rows_hold (suc last) tick more turned = λ t less id end.
+      ends_new device (tones_of domain jacks) w domain last (λ t. frames_at t given) (λ t. frames_at t mid) (λ t. frames_at t new) wires new between device_streams numbered
+      linked have is stands for_jacks
+      (turned_here last
+      (subst (λ (n : ℕ). RowsTurned device jacks domain (suc last) n first given mid new wires between device_streams) (omega (arith, more)) turned))
+      t less id (and_parts (is_output (entity_in w id).kind) ((entity_in w id).clock == domain) end).0 end
 
   pub rows_read : (ticks tick : ℕ) (readings : List Reading) → tick + 1 ≡ ticks
       → RowsTurned device jacks domain ticks tick first given mid new wires between device_streams

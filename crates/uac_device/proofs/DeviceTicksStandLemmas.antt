@@ -17,6 +17,7 @@ use Rattle.uac_graph.specs.GraphControls.{controls_in}
 use Rattle.uac_graph.specs.Fitness.{IsSignalGraph}
 use Rattle.uac_graph.specs.Meaning.{entity, meaning}
 use Rattle.uac_graph.specs.Needs.{depends_on, is_end}
+use Rattle.uac_graph.specs.TickRows.{RowsById}
 use Rattle.uac_graph.specs.Wiring.{AreGiven, AreRendered, Frames, frame_on, samples_on, silence}
 use Rattle.uac_flow.specs.FlowStreams.{InStream, OutStream}
 use Rattle.uac_flow.specs.FlowTicks.{in_after_ticks, out_after_ticks}
@@ -115,7 +116,7 @@ pub record TicksTurned (device : DeviceFields) (tones : Tones) (w : DeviceWorld)
   pub others :
       (id : ℕ) → is_output (entity_in w id).kind ≡ true → is_end domain (entity_in w id) ≡ false → frame_on wires id ≡ frame_on device.wires id
 
-module _ (device : DeviceFields) (tones : Tones) (w : DeviceWorld) (domain last : ℕ) (held mid new : ℕ → Frames) (wires : Frames)
+module _ (device : DeviceFields) (tones : Tones) (w : DeviceWorld) (domain last : ℕ) (held mid new : ℕ → Frames) (wires : Frames) (rows : RowsById)
     (between device_streams : List DeviceStream) (numbered : AreNumbered device.function) (linked : AreLinked device.function)
     (have : HaveChannels device.function.entities) (is : IsDevice device) (stands : DeviceStands device w) (jacks : AreForJacks tones w)
     (turned : TicksTurned device tones w domain last held mid new wires between device_streams) where
@@ -144,7 +145,7 @@ module _ (device : DeviceFields) (tones : Tones) (w : DeviceWorld) (domain last 
       (rendered_given w.function.entities (controls_in w.controls) (input_at domain tones w t) (depends_on w.function.entities domain) (mid t) (new t) (given_here t less)
       (rendered_here t less))).inputs
 
-  ends_new : (t : ℕ) → t < suc last → (id : ℕ) → is_output (entity_in w id).kind ≡ true → is_end domain (entity_in w id) ≡ true
+  pub ends_new : (t : ℕ) → t < suc last → (id : ℕ) → is_output (entity_in w id).kind ≡ true → is_end domain (entity_in w id) ≡ true
       → frame_on (new t) id ≡ Some (played_in domain tones w t id)
   ends_new t less id output end =
       ends_played tones w domain t (mid t) (new t) (given_here t less) (rendered_here t less) id end (ends_here id output ∙ end)
@@ -191,7 +192,7 @@ module _ (device : DeviceFields) (tones : Tones) (w : DeviceWorld) (domain last 
       by true end = turned.ends id end ∙ ends_new last (omega arith) id output end
       by false other = turned.others id output other ∙ stands.outputs id output ∙ ap (λ (frame : List ℤ). Some frame) (sym (played_before tones w domain last id other))
 
-  by_parts : DeviceStands (record device { wires = wires; device_streams = device_streams }) (world_after domain tones (suc last) w)
+  by_parts : DeviceStands (record device { wires = wires; device_streams = device_streams; rows = rows }) (world_after domain tones (suc last) w)
   unfolding world_after given_after played_after
   by_parts = record {
     function = stands.function;
@@ -204,8 +205,8 @@ module _ (device : DeviceFields) (tones : Tones) (w : DeviceWorld) (domain last 
     outputs = outputs_here;
   }
 
-  pub ticks_stand : DeviceStands (record device { wires = wires; device_streams = device_streams }) (after_tick_times domain tones (suc last) w)
-  ticks_stand = subst (DeviceStands (record device { wires = wires; device_streams = device_streams })) (sym (world_by_parts domain tones (suc last) w)) by_parts
+  pub ticks_stand : DeviceStands (record device { wires = wires; device_streams = device_streams; rows = rows }) (after_tick_times domain tones (suc last) w)
+  ticks_stand = subst (DeviceStands (record device { wires = wires; device_streams = device_streams; rows = rows })) (sym (world_by_parts domain tones (suc last) w)) by_parts
 
   -- and what the meters hear of each tick is what they are to hear
   pub heard_new : (t : ℕ) → t < suc last → frames_heard (new t) domain (jacks_of device.function.entities) ≡ heard_at domain tones w t

@@ -20,6 +20,7 @@ use Rattle.uac_graph.specs.GraphControls.{Controls, controls_in}
 use Rattle.uac_graph.specs.Fitness.{IsSignalGraph}
 use Rattle.uac_graph.specs.Meaning.{entity, frame_of, meaning, samples, samples_by}
 use Rattle.uac_graph.specs.Needs.{depends_on, is_end, needed_units}
+use Rattle.uac_graph.specs.TickRows.{RowsById}
 use Rattle.uac_graph.specs.Wiring.{AreGiven, AreRendered, AreSilent, Frames, frame_on, samples_on, silence}
 use Rattle.uac_graph.proofs.MeaningLemmas.{samples_by-same}
 use Rattle.uac_graph.proofs.LinksLemmas.{entity_past, index_or_none}
@@ -62,12 +63,12 @@ idle_keep entities streams = record {
   none = λ interface nowhere. (refl, refl);
 }
 
-pub fresh_stands : (function : FunctionFields) (controls : List (Key × ℤ)) (settings : List InterfaceSetting) (clocks : List DomainClock) (wires : Frames) (device_streams : List DeviceStream)
+pub fresh_stands : (function : FunctionFields) (controls : List (Key × ℤ)) (settings : List InterfaceSetting) (clocks : List DomainClock) (wires : Frames) (device_streams : List DeviceStream) (rows : RowsById)
     → controls ≡ initial_controls function.entities → settings ≡ initial_settings function → clocks ≡ map resting_clock function.domains
     → AreSilent function.entities wires → device_streams ≡ map (λ s. idle_stream (port_of function.entities s)) function.streams
-    → DeviceStands (record { function = function; controls = controls; settings = settings; clocks = clocks; wires = wires; device_streams = device_streams }) (fresh function)
+    → DeviceStands (record { function = function; controls = controls; settings = settings; clocks = clocks; wires = wires; device_streams = device_streams; rows = rows }) (fresh function)
 unfolding fresh
-fresh_stands function controls settings clocks wires device_streams start first resting silent idle = record {
+fresh_stands function controls settings clocks wires device_streams rows start first resting silent idle = record {
   function = refl;
   controls = start;
   settings = first;

@@ -32,3 +32,4 @@ pub mod DeviceWaitsLemmas
 pub mod DeviceWaitsTicksLemmas
 pub mod DeviceWaitsHeardLemmas
 pub mod DeviceAheadLemmas
+pub mod DeviceSumsLemmas

@@ -11,6 +11,7 @@ use Rattle.uac_request.specs.Requests.{AreSettingsOf, AnswerFields, after_reques
 use Rattle.uac_request.specs.declared.setup.Setup.{Setup}
 use Rattle.uac_alt.specs.AltStreams.{stream_fields}
 use Rattle.uac_alt.specs.declared.settings.InterfaceSetting.{InterfaceSetting}
+use Rattle.uac_graph.specs.TickRows.{RowsById}
 use Rattle.uac_graph.specs.Wiring.{Frames, AreWiresOf, frame_on, silence}
 use Rattle.uac_device.specs.declared.clocks.DomainClock.{DomainClock}
 use Rattle.uac_device.specs.declared.device_stream.DeviceStream.{DeviceStream}
@@ -18,7 +19,8 @@ use Rattle.uac_device.specs.declared.streams.Begun.{Begun}
 use Rattle.uac_device.specs.DeviceWorld.{BegunFields, Domain, DeviceWorld, after_control, entity_in, is_jack}
 use Rattle.uac_device.specs.DeviceStreams.{DeviceStreamsStand, port_of, ports}
 
--- what a device is seen as: of its clocks it keeps the phase alone, and its frames are those on the wires
+-- what a device is seen as: of its clocks it keeps the phase alone, and its frames are those on the wires; in rows it has those of the
+-- ticks that it did at once last
 pub record DeviceFields : Type 0 where
   pub function : FunctionFields
   pub controls : List (Key × ℤ)
@@ -26,6 +28,7 @@ pub record DeviceFields : Type 0 where
   pub clocks : List DomainClock
   pub wires : Frames
   pub device_streams : List DeviceStream
+  pub rows : RowsById
 
 -- how a clock domain is kept: the remainder of its steps stands for them all
 abbrev pub clock_of : Domain → DomainClock

@@ -1,12 +1,14 @@
 -- Several ticks of a domain: what becomes of a device's world, tick by tick, and each of its parts after so many of them. A tick has
 -- the number of those before it. Profile: the events and their order; the terms are those of Audio Class 2.0, 3.13.
 use Rattle.std.specs.Prelude.{◌≡◌, ℕ, zero, suc, ◌<◌, ◌&&◌, ◌||◌, not, Bool, true, false, if◌then◌else◌}
-use Rattle.std.specs.Prelude.{ℤ, List, map, filter, Option, IfSome}
+use Rattle.std.specs.Prelude.{ℤ, List, map, filter, Option, Some, IfSome}
 use Rattle.std.specs.List.{list_all}
 use Rattle.std.specs.Option.{option_map_or}
 use Rattle.uac_graph.specs.GraphControls.{controls_in}
 use Rattle.uac_graph.specs.Meaning.{meaning}
 use Rattle.uac_graph.specs.Needs.{is_end}
+use Rattle.uac_graph.specs.TickRows.{RowsById, frames_at}
+use Rattle.uac_graph.specs.Wiring.{frame_on}
 use Rattle.uac_units.specs.Hearing.{Reading}
 use Rattle.uac_flow.specs.FlowStreams.{InStream, OutStream}
 use Rattle.uac_flow.specs.FlowTicks.{IsHeld, has_room, in_after_ticks, is_dry_at, is_full_at, lasts, out_after_ticks}
@@ -51,6 +53,11 @@ unfoldable pub played_in : ℕ → Tones → DeviceWorld → ℕ → ℕ → Lis
 played_in domain tones w t id =
     if is_end domain (entity_in w id) then meaning w.function.entities (controls_in w.controls) (input_at domain tones w t) id
     else w.played id
+
+-- rows hold what a domain's output terminals play at each of so many ticks
+abbrev pub HoldPlayed : ℕ → Tones → ℕ → DeviceWorld → RowsById → Type 0
+HoldPlayed domain tones n w rows = (t : ℕ) → t < n → (id : ℕ) → is_end domain (entity_in w id) ≡ true
+    → frame_on (frames_at t rows) id ≡ Some (played_in domain tones w t id)
 
 -- the streams from the device after so many ticks
 abbrev pub ins_after : ℕ → Tones → DeviceWorld → ℕ → ℕ → Option InStream

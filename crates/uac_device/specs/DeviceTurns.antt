@@ -1,5 +1,5 @@
 -- What the events make of what a device keeps: clock by clock, and the frames that are heard on the wires.
-use Rattle.std.specs.Prelude.{ℕ, ◌+◌, ◌/◌, ◌%◌, ◌==◌, if◌then◌else◌, ℤ, pos, List, map, filter, Option, None, Some}
+use Rattle.std.specs.Prelude.{ℕ, ◌+◌, ◌*◌, ◌/◌, ◌%◌, ◌==◌, if◌then◌else◌, ℤ, pos, List, map, filter, Option, None, Some}
 use Rattle.std.specs.List.{find, filter_map}
 use Rattle.std.specs.Option.{option_map_or}
 use Rattle.uac_clock.specs.Nominal.{step_of}
@@ -22,18 +22,21 @@ clock_after_deviation domain ppm c = if c.domain == domain then record c { devia
 abbrev pub step_by : Option Nominal → ℤ → ℕ
 step_by values ppm = option_map_or (λ v. step_of v ppm) values 0
 
--- a domain's clock goes on by one microframe; another's stays
-abbrev pub clock_after_advance : ℕ → Option Nominal → DomainClock → DomainClock
-clock_after_advance domain values c = if c.domain == domain then record c { phase = (c.phase + step_by values c.deviation) % 65536 } else c
+-- a domain's clock goes on by so many microframes; another's stays
+abbrev pub clock_after_advances : ℕ → Option Nominal → ℕ → DomainClock → DomainClock
+clock_after_advances domain values n c = if c.domain == domain then record c { phase = (c.phase + step_by values c.deviation * n) % 65536 } else c
+
+-- how often a clock ticks in so many microframes
+abbrev pub ticks_of : Option Nominal → ℕ → DomainClock → ℕ
+ticks_of values n c = (c.phase + step_by values c.deviation * n) / 65536
 
 -- the ticks that come as a domain's clock goes on
-abbrev pub ticks_where : ℕ → Option Nominal → DomainClock → Option ℕ
-ticks_where domain values c = if c.domain == domain then Some ((c.phase + step_by values c.deviation) / 65536) else None
+abbrev pub ticks_where : ℕ → Option Nominal → ℕ → DomainClock → Option ℕ
+ticks_where domain values n c = if c.domain == domain then Some (ticks_of values n c) else None
 
 -- the ticks of the first clock of a domain
-abbrev pub first_ticks : ℕ → Option Nominal → List DomainClock → ℕ
-first_ticks domain values clocks =
-    option_map_or (λ c. (c.phase + step_by values c.deviation) / 65536) (find (λ c. c.domain == domain) clocks) 0
+abbrev pub first_ticks : ℕ → Option Nominal → ℕ → List DomainClock → ℕ
+first_ticks domain values n clocks = option_map_or (ticks_of values n) (find (λ c. c.domain == domain) clocks) 0
 
 -- an output jack, as it is kept, and those among entities
 abbrev pub jack_of : Entity → OutputJack

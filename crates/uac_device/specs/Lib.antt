@@ -14,3 +14,4 @@ pub mod DeviceTurns
 pub mod Following
 pub mod Stillness
 pub mod DeviceWaits
+pub mod DeviceSums

@@ -4,6 +4,8 @@ ghost use Rattle.std.specs.List.{All};
 ghost use Rattle.std.specs.Option.{option_map};
 ghost use Rattle.uac_graph.specs.Meaning.{entity};
 ghost use Rattle.uac_graph.specs.Needs.{needed_units};
+ghost use Rattle.uac_graph.specs.TickRows.{frames_at};
+ghost use Rattle.uac_graph.specs.Wiring.{samples_on};
 ghost use Rattle.uac_pcm.specs.Tones.{tone_frame};
 ghost use Rattle.uac_units.specs.Fitting.{IsFitted};
 ghost use Rattle.uac_units.specs.MeterReadings.{readings};
@@ -15,16 +17,17 @@ ghost use Rattle.uac_device.specs.DeviceWorld.{after_sending_in_packet, set_jack
 ghost use Rattle.uac_device.specs.DeviceWorld.{at_in, target_of, after_tick};
 ghost use Rattle.uac_flow.specs.FlowStreams.{in_level};
 ghost use Rattle.uac_flow.specs.FlowWaits.{sent_more};
+ghost use Rattle.uac_device.specs.DeviceSums.{after_advances, kept_ticks, ticks_over};
 ghost use Rattle.uac_device.specs.DeviceWaits.{AreSteady, feedback_later_in, frames_later_in, may_wait_in, takes_in};
 ghost use Rattle.uac_device.specs.DeviceKept.{IsControlled, DeviceStands, begun_fields};
 ghost use Rattle.uac_device.specs.Stillness.{IsStill};
 ghost use Rattle.uac_device.specs.InterfaceStreams.{NoneRuns};
 ghost use Rattle.uac_request.specs.Requests.{answer_fields};
-ghost use Rattle.uac_device.specs.DeviceTicks.{MeetsNothing, after_tick_times, goes_on, readings_after};
+ghost use Rattle.uac_device.specs.DeviceTicks.{HoldPlayed, MeetsNothing, after_tick_times, goes_on, readings_after};
 ghost use Rattle.uac_device.specs.DeviceTurns.{jacks_of};
 ghost use Rattle.uac_device.specs.Jacks.{tones_of};
 
-use crate::clocks::{DomainClock, advance, deviate};
+use crate::clocks::{DomainClock, advance_over, deviate, microframes_within};
 use crate::derived::Derived;
 use crate::device_streams::DeviceStreams;
 use crate::hearing::{OutputJack, hear};
@@ -49,7 +52,7 @@ use uac_topology::Function;
 use uac_topology::laws::{
     entities_have_channels, functions_are_sound, interfaces_are_numbered, sound_functions_are_small,
 };
-use uac_units::{Meter, Meters, Rack, Steps, Unit};
+use uac_units::{Meter, Meters, Rack, Steps, Unit, read_frame};
 
 /// A virtual audio device.
 #[derive(Drop)]
@@ -80,6 +83,7 @@ impl Model for Device {
       clocks = d.clocks.items;
       wires = d.wires;
       device_streams = d.device_streams;
+      rows = d.rows;
     } };
 
     ghost invariant = { λ d. IsDevice (record {
@@ -89,6 +93,7 @@ impl Model for Device {
       clocks = d.clocks.items;
       wires = d.wires;
       device_streams = d.device_streams;
+      rows = d.rows;
     })
         × (d.graph ≡ d.function.entities)
         × IsDerived d.function d.store d.derived
@@ -276,12 +281,37 @@ impl Device {
         ensures few { result ≤ 27 }
         ensures function { self.new.function ≡ self.old.function }
     {
+        self.ticks_over(domain, 1)
+    }
+
+    /// A domain's clock goes on by so many microframes, as by `ticks` one after the other; answers how often it ticks in all of them. The
+    /// streams to its terminals count these ticks.
+    pub fn ticks_over(&mut self, domain: u8, microframes: u32) -> u32
+        requires some { 1 ≤ microframes }
+        requires few { microframes ≤ 64 }
+        ensures stands { (w : DeviceWorld) → DeviceStands self.old w → DeviceStands self.new (after_advances domain microframes w) }
+        ensures ticks { (w : DeviceWorld) → DeviceStands self.old w → result ≡ ticks_over domain microframes w }
+        ensures kept { result ≡ kept_ticks self.old domain microframes }
+        ensures few { result ≤ 27 * microframes }
+        ensures function { self.new.function ≡ self.old.function }
+    {
         functions_are_sound(&self.function);
         interfaces_are_numbered();
         let values = self.derived.values(&self.function, &self.store, domain);
-        let ticks = advance(&mut self.clocks, domain, values);
+        let ticks = advance_over(&mut self.clocks, domain, values, microframes);
         self.device_streams.count(domain, ticks);
         ticks
+    }
+
+    /// How many microframes a domain's clock may go on by, at most 64, so that it surely ticks no more than so often.
+    pub fn microframes_within(&self, domain: u8, ticks: u32) -> u32
+        requires { ticks ≤ 128 }
+        ensures some { 27 ≤ ticks → 1 ≤ result }
+        ensures few { result ≤ 64 }
+        ensures within { (n : ℕ) → n ≤ result → kept_ticks self.now domain n ≤ ticks }
+    {
+        let values = self.derived.values(&self.function, &self.store, domain);
+        microframes_within(&self.clocks, domain, values, ticks)
     }
 
     /// Sets the frame that an input jack gives at the next tick.
@@ -444,6 +474,7 @@ impl Device {
             → readings (λ v x. (⟦<dyn Meter as Meter>⟧ v).reading_of x) meters.new
             ≡ readings_after domain (tones_of domain jacks.now) w ticks
             (readings (λ v x. (⟦<dyn Meter as Meter>⟧ v).reading_of x) meters.old) }
+        ensures played { (w : DeviceWorld) → DeviceStands self.old w → HoldPlayed domain (tones_of domain jacks.now) ticks w self.new.rows }
         ensures function { self.new.function ≡ self.old.function }
     {
         functions_are_sound(&self.function);
@@ -482,6 +513,15 @@ impl Device {
         } else {
             None
         }
+    }
+
+    /// Makes `frame` what a terminal played at a tick among those that were done at once last, which counts from 0.
+    pub fn read_played(&self, terminal: u8, tick: u32, frame: &mut Frame)
+        requires { tick < 128 }
+        ensures { frame.new.items ≡ samples_on (frames_at tick self.now.rows) terminal }
+    {
+        functions_are_sound(&self.function);
+        read_frame(self.rows.get(terminal), tick as usize, frame);
     }
 
     /// The output jacks, in block order.

@@ -6,8 +6,8 @@ pub mod Needs
 pub mod Wiring
 -- What the laws say besides.
 pub mod Fitness
--- What the contracts below them cite: steps of the code, no part of what is promised.
 pub mod TickRows
+-- What the contracts below them cite: steps of the code, no part of what is promised.
 pub mod FrameRows
 pub mod Jobs
 pub mod Tasks

@@ -23,8 +23,8 @@ use Rattle.uac_ring.specs.declared.counts.StreamCounts.{StreamCounts}
 use Rattle.uac_transcript.specs.Transcript.{Said}
 use Rattle.uac_streaming.specs.Telling.{Telling, telling_after, without_event}
 use Rattle.uac_streaming.specs.StreamingWorld.{StreamingWorld, all_ends, all_feedback, in_packets, numbers_in, numbers_out, out_packets}
-use Rattle.uac_streaming.specs.StreamingWaits.{after_reports_of, fits, sent_after, sent_on, streams_settled, with_device}
-use Rattle.uac_streaming.proofs.StreamingWaitsLemmas.{ends_have_sent, ends_keep, ends_silent, ends_steady, ends_wait, ins_have_sent, ins_wait, outs_have_sent, outs_keep, outs_silent, outs_steady, outs_wait, reports_device, reports_wait}
+use Rattle.uac_streaming.specs.StreamingWaits.{LosesNoPacket, after_reports_of, fits, sent_after, sent_on, streams_settled, with_device}
+use Rattle.uac_streaming.proofs.StreamingWaitsLemmas.{ends_have_sent, ends_keep, ends_silent, ends_steady, ends_wait, ins_have_sent, ins_lossless, ins_wait, outs_have_sent, outs_keep, outs_lossless, outs_silent, outs_steady, outs_wait, reports_device, reports_wait}
 use Rattle.uac_running.specs.RunningWorld.{RunningWorld, streaming_of, with_streaming}
 use Rattle.uac_running.specs.Events.{all_domains, domain_microframe, domain_microframes, ends_and_feedback, followed_by, jacks_after_frame, microframe, number_said, of_streams, packets_and_ticks, tick, tick_times}
 use Rattle.uac_running.specs.EventTicks.{jacks_after, met_after, renders_after, running_after}
@@ -276,14 +276,14 @@ ends_behind domain n sent r steady =
     event_behind (all_ends 0) domain n sent r (all_ends 0 (streaming_of r)).world (ends_wait domain (tones_of domain r.jacks) n (sent_of sent r) (streaming_of r) steady)
     (ends_function r) (ends_play domain n r steady)
 
-pub reports_behind : (domain n sent : ℕ) (r : RunningWorld)
-    → of_streams (all_feedback 0 []) (behind domain n sent r)
-    ≡ without_event (behind domain n sent (with_streaming r (after_reports_of (device_settled domain n sent r) (streaming_of r))))
-reports_behind domain n sent r =
-    let reported = after_reports_of (device_settled domain n sent r) (streaming_of r) in
-    event_behind (all_feedback 0 []) domain n sent r reported (reports_wait domain (tones_of domain r.jacks) n (sent_of sent r) (streaming_of r))
-    (ap (λ (v : DeviceWorld). v.function) (reports_device (device_settled domain n sent r) (streaming_of r)))
-    (λ u less. ap (λ (v : DeviceWorld). played_in domain (tones_of domain r.jacks) v u) (reports_device (device_settled domain n sent r) (streaming_of r)))
+pub reports_behind : (marks : List PhraseMark) (domain n sent : ℕ) (r : RunningWorld)
+    → of_streams (all_feedback 0 marks) (behind domain n sent r)
+    ≡ without_event (behind domain n sent (with_streaming r (after_reports_of marks (device_settled domain n sent r) (streaming_of r))))
+reports_behind marks domain n sent r =
+    let reported = after_reports_of marks (device_settled domain n sent r) (streaming_of r) in
+    event_behind (all_feedback 0 marks) domain n sent r reported (reports_wait marks domain (tones_of domain r.jacks) n (sent_of sent r) (streaming_of r))
+    (ap (λ (v : DeviceWorld). v.function) (reports_device marks (device_settled domain n sent r) (streaming_of r)))
+    (λ u less. ap (λ (v : DeviceWorld). played_in domain (tones_of domain r.jacks) v u) (reports_device marks (device_settled domain n sent r) (streaming_of r)))
 
 -- ---- a microframe
 
@@ -316,10 +316,10 @@ lone_outs domain r lone = record {
 pub ended_function : (domain : ℕ) (r : RunningWorld) → (ended domain r).device.function ≡ r.device.function
 ended_function domain r = ends_function (with_clock domain r) ∙ advance_function domain (with_outs r) ∙ outs_function r
 
-gone_function : (domain n sent : ℕ) (r : RunningWorld) → (gone_ahead domain n sent r).device.function ≡ r.device.function
-gone_function domain n sent r =
+gone_function : (marks : List PhraseMark) (domain n sent : ℕ) (r : RunningWorld) → (gone_ahead marks domain n sent r).device.function ≡ r.device.function
+gone_function marks domain n sent r =
     ap (λ (v : DeviceWorld). v.function)
-    (reports_device (device_settled domain (ticks_then domain n r) (sent_then n sent r) (with_ends domain r)) (ended domain r))
+    (reports_device marks (device_settled domain (ticks_then domain n r) (sent_then n sent r) (with_ends domain r)) (ended domain r))
     ∙ ended_function domain r
 
 -- streams that are steady over this microframe, too
@@ -337,7 +337,7 @@ module _ (domain n : ℕ) (r : RunningWorld) (steady : AreSteady domain (n + 27)
   pub ends_still : AreSteady domain (ticks_then domain n r) (ended domain r).device
   ends_still = ends_steady domain (ticks_then domain n r) (clocked domain r) clock_still
 
-module _ (domain n sent : ℕ) (r : RunningWorld) (lone : IsLone domain r) (steady : AreSteady domain (n + 27) r.device)
+module _ (marks : List PhraseMark) (domain n sent : ℕ) (r : RunningWorld) (lone : IsLone domain r) (steady : AreSteady domain (n + 27) r.device)
     (fit : list_all (fits (streaming_of r)) (numbers_out r.device.function) ≡ true) (few : next_ticks domain (outs_sent r).device ≤ 27)
     (have : HaveSent n (sent_of sent r) r.device) where
   -- so many ticks wait then, and so many frames were sent
@@ -347,9 +347,9 @@ module _ (domain n sent : ℕ) (r : RunningWorld) (lone : IsLone domain r) (stea
   abbrev sent_now : ℕ
   sent_now = sent_then n sent r
 
-  pub gone_steady : AreSteady domain ticks_now (gone_ahead domain n sent r).device
+  pub gone_steady : AreSteady domain ticks_now (gone_ahead marks domain n sent r).device
   gone_steady =
-      subst (AreSteady domain ticks_now) (sym (reports_device (device_settled domain ticks_now sent_now (with_ends domain r)) (ended domain r)))
+      subst (AreSteady domain ticks_now) (sym (reports_device marks (device_settled domain ticks_now sent_now (with_ends domain r)) (ended domain r)))
       (ends_still domain n r steady fit few)
 
   outs_have : HaveSent n (sent_of sent (with_outs r)) (outs_sent r).device
@@ -366,18 +366,23 @@ module _ (domain n sent : ℕ) (r : RunningWorld) (lone : IsLone domain r) (stea
       (later_have_sent n ticks_now (sent_of sent_now (with_outs r)) (clocked domain r).device (omega arith)
       (advance_have_sent domain n (sent_of sent_now (with_outs r)) (outs_sent r).device ins_have))
 
-  pub gone_have : HaveSent ticks_now (sent_of sent_now (gone_ahead domain n sent r)) (gone_ahead domain n sent r).device
+  pub gone_have : HaveSent ticks_now (sent_of sent_now (gone_ahead marks domain n sent r)) (gone_ahead marks domain n sent r).device
   gone_have =
-      subst (λ (f : FunctionFields). HaveSent ticks_now (sent_on (numbers_in f) sent_now) (gone_ahead domain n sent r).device)
-      (outs_function r ∙ sym (gone_function domain n sent r))
+      subst (λ (f : FunctionFields). HaveSent ticks_now (sent_on (numbers_in f) sent_now) (gone_ahead marks domain n sent r).device)
+      (outs_function r ∙ sym (gone_function marks domain n sent r))
       (subst (HaveSent ticks_now (sent_of sent_now (with_outs r)))
-      (sym (reports_device (device_settled domain ticks_now sent_now (with_ends domain r)) (ended domain r))) ends_have)
+      (sym (reports_device marks (device_settled domain ticks_now sent_now (with_ends domain r)) (ended domain r))) ends_have)
 
-  packets_behind : packets_and_ticks [] (behind domain n sent r) ≡ without_event (behind domain ticks_now sent_now (with_clock domain r))
+  packets_behind : LosesNoPacket marks
+      → packets_and_ticks marks (behind domain n sent r) ≡ without_event (behind domain ticks_now sent_now (with_clock domain r))
   unfolding packets_and_ticks
-  packets_behind =
+  packets_behind none =
       let v = behind domain n sent r in
-      ap (λ (detail : ℕ). followed_by (of_streams (out_packets detail [])) (followed_by (of_streams (in_packets detail [])) all_domains) v) lone.detail
+      ap (λ (detail : ℕ). followed_by (of_streams (out_packets detail marks)) (followed_by (of_streams (in_packets detail marks)) all_domains) v) lone.detail
+      ∙ ap (λ (outs : StreamingWorld → Telling StreamingWorld). followed_by (of_streams outs) (followed_by (of_streams (in_packets 0 marks)) all_domains) v)
+      (outs_lossless marks 0 none)
+      ∙ ap (λ (ins : StreamingWorld → Telling StreamingWorld). followed_by (of_streams (out_packets 0 [])) (followed_by (of_streams ins) all_domains) v)
+      (ins_lossless marks 0 none)
       ∙ then_silent (of_streams (out_packets 0 [])) (followed_by (of_streams (in_packets 0 [])) all_domains) v (behind domain n sent (with_outs r))
       (behind domain ticks_now sent_now (with_clock domain r)) (outs_behind domain n sent r (more_steady domain n r steady fit few n (omega arith)) fit)
       (then_silent (of_streams (in_packets 0 [])) all_domains (behind domain n sent (with_outs r)) (behind domain n sent_now (with_outs r))
@@ -385,34 +390,34 @@ module _ (domain n sent : ℕ) (r : RunningWorld) (lone : IsLone domain r) (stea
       (ins_behind domain n sent (with_outs r) (outs_still domain n r steady fit few n (omega arith)) (lone_outs domain r lone).one)
       (domain_behind domain n sent_now (with_outs r) (lone_outs domain r lone) (outs_still domain n r steady fit few ticks_now (omega (arith, few))) ins_have))
 
-  ends_and_reports_behind : ends_and_feedback [] (behind domain ticks_now sent_now (with_clock domain r)) ≡ without_event (behind domain ticks_now sent_now (gone_ahead domain n sent r))
+  ends_and_reports_behind : ends_and_feedback marks (behind domain ticks_now sent_now (with_clock domain r)) ≡ without_event (behind domain ticks_now sent_now (gone_ahead marks domain n sent r))
   unfolding ends_and_feedback
   ends_and_reports_behind =
       let v = behind domain ticks_now sent_now (with_clock domain r) in
-      ap (λ (detail : ℕ). followed_by (of_streams (all_ends detail)) (of_streams (all_feedback detail [])) v) lone.detail
-      ∙ then_silent (of_streams (all_ends 0)) (of_streams (all_feedback 0 [])) v (behind domain ticks_now sent_now (with_ends domain r))
-      (behind domain ticks_now sent_now (gone_ahead domain n sent r)) (ends_behind domain ticks_now sent_now (with_clock domain r) (clock_still domain n r steady fit few))
-      (reports_behind domain ticks_now sent_now (with_ends domain r))
+      ap (λ (detail : ℕ). followed_by (of_streams (all_ends detail)) (of_streams (all_feedback detail marks)) v) lone.detail
+      ∙ then_silent (of_streams (all_ends 0)) (of_streams (all_feedback 0 marks)) v (behind domain ticks_now sent_now (with_ends domain r))
+      (behind domain ticks_now sent_now (gone_ahead marks domain n sent r)) (ends_behind domain ticks_now sent_now (with_clock domain r) (clock_still domain n r steady fit few))
+      (reports_behind marks domain ticks_now sent_now (with_ends domain r))
 
-  whole_behind : followed_by (packets_and_ticks []) (ends_and_feedback []) (behind domain n sent r)
-      ≡ without_event (behind domain ticks_now sent_now (gone_ahead domain n sent r))
-  whole_behind =
-      then_silent (packets_and_ticks []) (ends_and_feedback []) (behind domain n sent r) (behind domain ticks_now sent_now (with_clock domain r))
-      (behind domain ticks_now sent_now (gone_ahead domain n sent r)) packets_behind ends_and_reports_behind
+  whole_behind : LosesNoPacket marks → followed_by (packets_and_ticks marks) (ends_and_feedback marks) (behind domain n sent r)
+      ≡ without_event (behind domain ticks_now sent_now (gone_ahead marks domain n sent r))
+  whole_behind none =
+      then_silent (packets_and_ticks marks) (ends_and_feedback marks) (behind domain n sent r) (behind domain ticks_now sent_now (with_clock domain r))
+      (behind domain ticks_now sent_now (gone_ahead marks domain n sent r)) (packets_behind none) ends_and_reports_behind
 
 -- a microframe behind the ticks that wait says nothing, and is one before them
-pub microframe_behind : (domain n sent : ℕ) (r : RunningWorld) → IsLone domain r → AreSteady domain (n + 27) r.device
+pub microframe_behind : (marks : List PhraseMark) (domain n sent : ℕ) (r : RunningWorld) → LosesNoPacket marks → IsLone domain r → AreSteady domain (n + 27) r.device
     → list_all (fits (streaming_of r)) (numbers_out r.device.function) ≡ true → next_ticks domain (outs_sent (numbered r)).device ≤ 27
     → HaveSent n (sent_of sent r) r.device
-    → microframe [] (behind domain n sent r)
-    ≡ without_event (behind domain (ticks_then domain n (numbered r)) (sent_then n sent (numbered r)) (gone_ahead domain n sent (numbered r)))
+    → microframe marks (behind domain n sent r)
+    ≡ without_event (behind domain (ticks_then domain n (numbered r)) (sent_then n sent (numbered r)) (gone_ahead marks domain n sent (numbered r)))
 unfolding microframe
-microframe_behind domain n sent r lone steady fit few have =
+microframe_behind marks domain n sent r none lone steady fit few have =
     let v = behind domain n sent r in
-    let told = followed_by (packets_and_ticks []) (ends_and_feedback []) (numbered v) in
+    let told = followed_by (packets_and_ticks marks) (ends_and_feedback marks) (numbered v) in
     ap (λ (detail : ℕ). telling_after (number_said detail (at_most_u64 (v.time + 1))) told) lone.detail
-    ∙ ap (λ (w : RunningWorld). followed_by (packets_and_ticks []) (ends_and_feedback []) w) (numbered_behind domain n sent r)
-    ∙ whole_behind domain n sent (numbered r) (record { detail = lone.detail; only = lone.only; one = lone.one }) steady fit few have
+    ∙ ap (λ (w : RunningWorld). followed_by (packets_and_ticks marks) (ends_and_feedback marks) w) (numbered_behind domain n sent r)
+    ∙ whole_behind marks domain n sent (numbered r) (record { detail = lone.detail; only = lone.only; one = lone.one }) steady fit few have none
 
 -- ---- what a microframe keeps
 
@@ -432,22 +437,24 @@ domains_detail (domain ∷ domains) r =
     domains_detail domains (domain_microframe domain r).world
     ∙ ticks_detail (next_ticks domain r.device) domain (record r { device = after_advance domain r.device })
 
-microframe_detail : (r : RunningWorld) → (microframe [] r).world.detail ≡ r.detail
+microframe_detail : (marks : List PhraseMark) (r : RunningWorld) → (microframe marks r).world.detail ≡ r.detail
 unfolding microframe packets_and_ticks ends_and_feedback
-microframe_detail r =
-    let outs = (of_streams (out_packets r.detail []) (numbered r)).world in
-    let ins = (of_streams (in_packets r.detail []) outs).world in
+microframe_detail marks r =
+    let outs = (of_streams (out_packets r.detail marks) (numbered r)).world in
+    let ins = (of_streams (in_packets r.detail marks) outs).world in
     domains_detail ins.device.function.domains ins
 
-microframe_function : (r : RunningWorld) → HaveSmallNumbers r.device.function → HaveRoom r.device → (microframe [] r).world.device.function ≡ r.device.function
-microframe_function r small room =
-    (microframe_room (λ (f : FunctionFields). f ≡ r.device.function) (λ f same. subst HaveSmallNumbers (sym same) small) [] r (record { room = room; function = refl })).function
+microframe_function : (marks : List PhraseMark) (r : RunningWorld) → HaveSmallNumbers r.device.function → HaveRoom r.device
+    → (microframe marks r).world.device.function ≡ r.device.function
+microframe_function marks r small room =
+    (microframe_room (λ (f : FunctionFields). f ≡ r.device.function) (λ f same. subst HaveSmallNumbers (sym same) small) marks r (record { room = room; function = refl })).function
 
-pub microframe_lone : (domain : ℕ) (r : RunningWorld) → HaveSmallNumbers r.device.function → HaveRoom r.device → IsLone domain r → IsLone domain (microframe [] r).world
-microframe_lone domain r small room lone =
-    let same = microframe_function r small room in
+pub microframe_lone : (marks : List PhraseMark) (domain : ℕ) (r : RunningWorld) → HaveSmallNumbers r.device.function → HaveRoom r.device → IsLone domain r
+    → IsLone domain (microframe marks r).world
+microframe_lone marks domain r small room lone =
+    let same = microframe_function marks r small room in
     record {
-      detail = microframe_detail r ∙ lone.detail;
+      detail = microframe_detail marks r ∙ lone.detail;
       only = ap (λ (f : FunctionFields). f.domains) same ∙ lone.only;
       one = subst (λ (f : FunctionFields). length (numbers_in f) ≤ 1) (sym same) lone.one;
     }
@@ -506,29 +513,31 @@ pub record MayGoAhead (domain n sent : ℕ) (r : RunningWorld) : Type 0 where
   pub steady : AreSteady domain (n + 27) r.device
   pub fit : list_all (fits (streaming_of r)) (numbers_out r.device.function) ≡ true
 
-ahead_done : (domain n sent : ℕ) (p : RunningFields) (shown : List Reading) (r : RunningWorld) (ahead : IsAhead domain n sent p shown r)
-    → MayGoAhead domain n sent ahead.before
-    → microframe [] r
-    ≡ without_event (behind domain (ticks_then domain n (numbered ahead.before)) (sent_then n sent (numbered ahead.before)) (gone_ahead domain n sent (numbered ahead.before)))
-ahead_done domain n sent p shown r ahead may =
-    ap (microframe []) ahead.done ∙ microframe_behind domain n sent ahead.before ahead.lone may.steady may.fit (few_next domain n sent p shown r ahead) ahead.have
+ahead_done : (marks : List PhraseMark) (domain n sent : ℕ) (p : RunningFields) (shown : List Reading) (r : RunningWorld) → LosesNoPacket marks
+    → (ahead : IsAhead domain n sent p shown r) → MayGoAhead domain n sent ahead.before
+    → microframe marks r
+    ≡ without_event (behind domain (ticks_then domain n (numbered ahead.before)) (sent_then n sent (numbered ahead.before)) (gone_ahead marks domain n sent (numbered ahead.before)))
+ahead_done marks domain n sent p shown r none ahead may =
+    ap (microframe marks) ahead.done
+    ∙ microframe_behind marks domain n sent ahead.before none ahead.lone may.steady may.fit (few_next domain n sent p shown r ahead) ahead.have
 
-pub ahead_lines : (domain n sent : ℕ) (p : RunningFields) (shown : List Reading) (r : RunningWorld) (ahead : IsAhead domain n sent p shown r)
-    → MayGoAhead domain n sent ahead.before → (microframe [] r).lines ≡ []
-ahead_lines domain n sent p shown r ahead may = ap (λ (told : Telling RunningWorld). told.lines) (ahead_done domain n sent p shown r ahead may)
+pub ahead_lines : (marks : List PhraseMark) (domain n sent : ℕ) (p : RunningFields) (shown : List Reading) (r : RunningWorld) → LosesNoPacket marks
+    → (ahead : IsAhead domain n sent p shown r) → MayGoAhead domain n sent ahead.before → (microframe marks r).lines ≡ []
+ahead_lines marks domain n sent p shown r none ahead may = ap (λ (told : Telling RunningWorld). told.lines) (ahead_done marks domain n sent p shown r none ahead may)
 
 -- one microframe more ran ahead
-ahead_then : (domain n sent : ℕ) (p q : RunningFields) (shown : List Reading) (r : RunningWorld) (ahead : IsAhead domain n sent p shown r)
-    → MayGoAhead domain n sent ahead.before → HaveRoom (microframe [] r).world.device → RunningStands q shown (gone_ahead domain n sent (numbered ahead.before))
-    → IsAhead domain (ticks_then domain n (numbered ahead.before)) (sent_then n sent (numbered ahead.before)) q shown (microframe [] r).world
-ahead_then domain n sent p q shown r ahead may room stands =
+ahead_then : (marks : List PhraseMark) (domain n sent : ℕ) (p q : RunningFields) (shown : List Reading) (r : RunningWorld) → LosesNoPacket marks
+    → (ahead : IsAhead domain n sent p shown r) → MayGoAhead domain n sent ahead.before → HaveRoom (microframe marks r).world.device
+    → RunningStands q shown (gone_ahead marks domain n sent (numbered ahead.before))
+    → IsAhead domain (ticks_then domain n (numbered ahead.before)) (sent_then n sent (numbered ahead.before)) q shown (microframe marks r).world
+ahead_then marks domain n sent p q shown r none ahead may room stands =
     let b = numbered ahead.before in
-    let gone = gone_ahead domain n sent b in
+    let gone = gone_ahead marks domain n sent b in
     let ticks = ticks_then domain n b in
     let lone : IsLone domain b = record { detail = ahead.lone.detail; only = ahead.lone.only; one = ahead.lone.one } in
-    let same = gone_function domain n sent b in
-    let steady = gone_steady domain n sent b lone may.steady may.fit (few_next domain n sent p shown r ahead) ahead.have in
-    let have = gone_have domain n sent b lone may.steady may.fit (few_next domain n sent p shown r ahead) ahead.have in
+    let same = gone_function marks domain n sent b in
+    let steady = gone_steady marks domain n sent b lone may.steady may.fit (few_next domain n sent p shown r ahead) ahead.have in
+    let have = gone_have marks domain n sent b lone may.steady may.fit (few_next domain n sent p shown r ahead) ahead.have in
     record {
       before = gone;
       stands = stands;
@@ -540,18 +549,18 @@ ahead_then domain n sent p q shown r ahead may room stands =
       meets = steady_meets_nothing domain ticks gone.device steady;
       have = have;
       there = sent_are_there domain (tones_of domain gone.jacks) ticks (sent_of (sent_then n sent b) gone) gone.device steady have;
-      done = ap (λ (told : Telling RunningWorld). told.world) (ahead_done domain n sent p shown r ahead may);
+      done = ap (λ (told : Telling RunningWorld). told.world) (ahead_done marks domain n sent p shown r none ahead may);
       room = room;
     }
 
-pub ahead_more : (domain n sent ticks more : ℕ) (p q : RunningFields) (shown : List Reading) (r : RunningWorld) (ahead : IsAhead domain n sent p shown r)
-    → MayGoAhead domain n sent ahead.before → HaveRoom (microframe [] r).world.device
+pub ahead_more : (marks : List PhraseMark) (domain n sent ticks more : ℕ) (p q : RunningFields) (shown : List Reading) (r : RunningWorld) → LosesNoPacket marks
+    → (ahead : IsAhead domain n sent p shown r) → MayGoAhead domain n sent ahead.before → HaveRoom (microframe marks r).world.device
     → ticks ≡ ticks_then domain n (numbered ahead.before) → more ≡ sent_then n sent (numbered ahead.before)
-    → RunningStands q shown (gone_ahead domain n sent (numbered ahead.before)) → IsAhead domain ticks more q shown (microframe [] r).world
-ahead_more domain n sent ticks more p q shown r ahead may room is_ticks is_more stands =
-    subst (λ (k : ℕ). IsAhead domain k more q shown (microframe [] r).world) (sym is_ticks)
-    (subst (λ (k : ℕ). IsAhead domain (ticks_then domain n (numbered ahead.before)) k q shown (microframe [] r).world) (sym is_more)
-    (ahead_then domain n sent p q shown r ahead may room stands))
+    → RunningStands q shown (gone_ahead marks domain n sent (numbered ahead.before)) → IsAhead domain ticks more q shown (microframe marks r).world
+ahead_more marks domain n sent ticks more p q shown r none ahead may room is_ticks is_more stands =
+    subst (λ (k : ℕ). IsAhead domain k more q shown (microframe marks r).world) (sym is_ticks)
+    (subst (λ (k : ℕ). IsAhead domain (ticks_then domain n (numbered ahead.before)) k q shown (microframe marks r).world) (sym is_more)
+    (ahead_then marks domain n sent p q shown r none ahead may room stands))
 
 -- what waited is done
 met_ahead : (domain n sent : ℕ) (p : RunningFields) (shown : List Reading) (r : RunningWorld) (ahead : IsAhead domain n sent p shown r)
@@ -589,19 +598,19 @@ pub stopped_ahead : {T E : Type 0} (Q : E → Type 0) (P : T → Type 0) (old ne
 stopped_ahead Q P old new r lines fails front = ((Tells-handed_on Q (Unit {0}) old new r lines fails front).0, no_ok Q P r fails)
 
 -- the packets to the device, and the ends of a microframe, say nothing
-pub outs_told : (marks : List PhraseMark) (domain n : ℕ) (r : RunningWorld) → marks ≡ [] → r.detail ≡ 0 → AreSteady domain n r.device
+pub outs_told : (marks : List PhraseMark) (domain n : ℕ) (r : RunningWorld) → LosesNoPacket marks → r.detail ≡ 0 → AreSteady domain n r.device
     → list_all (fits (streaming_of r)) (numbers_out r.device.function) ≡ true
     → of_streams (out_packets r.detail marks) r ≡ without_event (with_streaming r (outs_sent r))
 outs_told marks domain n r none detail steady fit =
-    ap (λ (ms : List PhraseMark). of_streams (out_packets r.detail ms) r) none
+    ap (λ (outs : StreamingWorld → Telling StreamingWorld). of_streams outs r) (outs_lossless marks r.detail none)
     ∙ ap (λ (k : ℕ). of_streams (out_packets k []) r) detail
     ∙ ap (λ (lines : List Said). record { lines = lines; world = with_streaming r (outs_sent r) }) (outs_silent domain n (streaming_of r) steady fit)
 
 -- where the packets went, whatever was said
-pub outs_world : (marks : List PhraseMark) (r : RunningWorld) → marks ≡ [] → r.detail ≡ 0
+pub outs_world : (marks : List PhraseMark) (r : RunningWorld) → LosesNoPacket marks → r.detail ≡ 0
     → (of_streams (out_packets r.detail marks) r).world ≡ with_streaming r (outs_sent r)
 outs_world marks r none detail =
-    ap (λ (ms : List PhraseMark). (of_streams (out_packets r.detail ms) r).world) none
+    ap (λ (outs : StreamingWorld → Telling StreamingWorld). (of_streams outs r).world) (outs_lossless marks r.detail none)
     ∙ ap (λ (k : ℕ). (of_streams (out_packets k []) r).world) detail
 
 pub ends_told : (r : RunningWorld) → r.detail ≡ 0 → of_streams (all_ends r.detail) r ≡ without_event (with_streaming r (all_ends 0 (streaming_of r)).world)

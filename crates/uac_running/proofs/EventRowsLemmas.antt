@@ -1,36 +1,43 @@
 -- Several ticks of a domain of a running device at once, and what is said of them.
-use Rattle.std.proofs.Common.{◌≡◌, ◌∙◌, sym, refl, ap, subst, arith, ℕ, zero, suc, ◌+◌, ◌*◌, ◌<◌, ◌≤◌, ◌==◌, nat_le, Bool, true, false, if◌then◌else◌, List, [], ◌∷◌, ◌++◌, map, Option, Some, None, inl, inr, Ok}
+use Rattle.std.proofs.Common.{◌≡◌, ◌∙◌, sym, refl, ap, subst, arith, ℕ, zero, suc, ◌+◌, ◌*◌, ◌<◌, ◌≤◌, ◌==◌, nat_le, Bool, true, false, if◌then◌else◌, List, [], ◌∷◌, ◌++◌, map, Option, Result, Some, None, inl, inr}
 use Rattle.std.specs.List.{find}
 use Rattle.std.proofs.Math.Path.{fun_ext}
-use Rattle.std.proofs.lemmas.Bool.{cases_Bool, eqb-true, true≢false}
+use Rattle.std.proofs.lemmas.Bool.{cases_Bool, eqb-true, le-leb, true≢false}
 use Rattle.uac_entities.specs.declared.stream.StreamInterface.{StreamInterface}
-use Rattle.uac_topology.specs.Function.{interface_in}
+use Rattle.std.proofs.lemmas.Option.{same_Some}
+use Rattle.uac_topology.specs.Function.{FunctionFields, interface_in}
+use Rattle.uac_graph.specs.Meaning.{entity}
+use Rattle.uac_graph.specs.Needs.{is_end}
+use Rattle.uac_graph.specs.TickRows.{frames_at}
+use Rattle.uac_graph.specs.Wiring.{frame_on}
 use Rattle.uac_ring.specs.declared.counts.StreamCounts.{StreamCounts}
 use Rattle.uac_units.specs.Hearing.{Reading, at_most_u64}
 use Rattle.uac_device.specs.DeviceKept as device
 use Rattle.uac_device.specs.declared.jacks.Jack.{Jack}
 use Rattle.uac_device.specs.declared.ticking.Ticked.{Ticked}
 use Rattle.uac_device.specs.InterfaceStreams.{set_of_streams}
-use Rattle.uac_device.specs.DeviceWorld.{DeviceWorld, met_of, renders_of}
-use Rattle.uac_device.specs.DeviceTicks.{Tones, after_tick_times, readings_after, world_after}
+use Rattle.uac_device.specs.DeviceWorld.{DeviceWorld, entity_in, met_of, renders_of}
+use Rattle.uac_device.specs.DeviceTicks.{HoldPlayed, Tones, after_tick_times, played_after, readings_after, world_after}
 use Rattle.uac_device.specs.Jacks.{jack_after, tones_of}
 use Rattle.uac_device.proofs.DeviceTicksLemmas.{world_by_parts}
 use Rattle.uac_transcript.specs.Transcript.{Said}
-use Rattle.uac_edges.specs.declared.edges.Failed.{Failed}
+use Rattle.uac_edges.specs.Writing.{AppendsFront}
+use Rattle.uac_transcript.specs.Printing.{Prints, text_of}
+use Rattle.uac_transcript.proofs.PrintingLemmas.{front_of_more}
 use Rattle.uac_streaming.specs.StreamingKept as streaming
 use Rattle.uac_streaming.specs.StreamingWorld.{finds_empty, finds_full, found_counts, found_lines, one_over, one_under}
 use Rattle.uac_streaming.specs.Telling.{Telling}
 use Rattle.uac_streaming.proofs.FoundRingsLemmas.{found_none}
 use Rattle.uac_running.specs.RunningWorld.{RunningWorld, streaming_of}
-use Rattle.uac_running.specs.ReportLines.{played_lines}
+use Rattle.uac_running.specs.ReportLines.{Shows, played_lines}
 use Rattle.uac_running.specs.RunningKept.{HasItsJacks, RunningFields, RunningStands, RunningTells}
 use Rattle.uac_running.specs.TickCounts.{tick_count_of}
 use Rattle.uac_running.specs.Events.{tick_times}
-use Rattle.uac_running.specs.EventTicks.{device_after, device_before, jacks_after, lines_after, lines_at, met_after, running_after}
+use Rattle.uac_running.specs.EventTicks.{device_after, device_before, jacks_after, lines_after, lines_at, met_after, running_after, shown_after}
 use Rattle.uac_running.proofs.EventsLemmas.{IsBeside, stands_beside}
 use Rattle.uac_running.proofs.EventTicksLemmas.{jacks_each, renders_some, ticks_by_parts}
 use Rattle.uac_running.proofs.RunningKeptJackLemmas.{kept_after, kept_jacks}
-use Rattle.uac_running.proofs.TellingLemmas.{Appends-nothing}
+use Rattle.uac_running.proofs.TellingLemmas.{at_ok}
 
 -- ---- nothing is met
 
@@ -89,18 +96,55 @@ met_nothing domain (suc t) r none =
     nothing_counted domain (device_before domain t r) (none t (omega arith)) (met_after domain t r)
     ∙ met_nothing domain t r (λ u less. none u (omega (arith, less)))
 
-quiet_lines : (found played : List Said) (detail : ℕ) → found ≡ [] → detail ≡ 0 → found ++ (if nat_le 1 detail then played else []) ≡ []
-quiet_lines found played detail is quiet =
-    ap (λ (lines : List Said). lines ++ (if nat_le 1 detail then played else [])) is ∙ ap (λ (n : ℕ). if nat_le 1 n then played else []) quiet
+pub lines_shown : (domain n : ℕ) (r : RunningWorld) → ((t : ℕ) → t < n → met_of domain (device_before domain t r) ≡ nothing)
+    → lines_after domain n r ≡ shown_after domain n r
+unfolding lines_after lines_at shown_after
+lines_shown domain zero r none = refl
+lines_shown domain (suc t) r none =
+    let played : List Said = if nat_le 1 r.detail then played_lines domain (device_after domain (suc t) r) else [] in
+    ap (λ (lines : List Said). lines ++ lines_at domain t r) (lines_shown domain t r (λ u less. none u (omega (arith, less))))
+    ∙ ap (λ (found : List Said). shown_after domain t r ++ (found ++ played)) (nothing_said domain (device_before domain t r) (none t (omega arith)))
+
+-- at detail 0 nothing is shown
+pub none_shown : (domain n : ℕ) (r : RunningWorld) → r.detail ≡ 0 → shown_after domain n r ≡ []
+unfolding shown_after
+none_shown domain zero r quiet = refl
+none_shown domain (suc t) r quiet =
+    ap (λ (lines : List Said). lines ++ (if nat_le 1 r.detail then played_lines domain (device_after domain (suc t) r) else [])) (none_shown domain t r quiet)
+    ∙ ap (λ (n : ℕ). if nat_le 1 n then played_lines domain (device_after domain (suc t) r) else []) quiet
 
 pub lines_nothing : (domain n : ℕ) (r : RunningWorld) → ((t : ℕ) → t < n → met_of domain (device_before domain t r) ≡ nothing) → r.detail ≡ 0
     → lines_after domain n r ≡ []
-unfolding lines_after lines_at
-lines_nothing domain zero r none quiet = refl
-lines_nothing domain (suc t) r none quiet =
-    ap (λ (lines : List Said). lines ++ lines_at domain t r) (lines_nothing domain t r (λ u less. none u (omega (arith, less))) quiet)
-    ∙ quiet_lines (found_lines domain (device_before domain t r)) (played_lines domain (device_after domain (suc t) r)) r.detail
-    (nothing_said domain (device_before domain t r) (none t (omega arith))) quiet
+lines_nothing domain n r none quiet = lines_shown domain n r none ∙ none_shown domain n r quiet
+
+-- from detail 1 on something is
+pub is_told : (own detail : ℕ) → (own ≡ 0 → ⊥) → own ≡ detail → nat_le 1 detail ≡ true
+is_told own detail some same = le-leb 1 detail (some_at own detail some same)
+  where
+    some_at : (n m : ℕ) → (n ≡ 0 → ⊥) → n ≡ m → 1 ≤ m
+    some_at zero m more is = absurd (more refl)
+    some_at (suc n) m more is = omega (arith, is)
+
+-- and then one tick more says what it played
+pub shown_more : (domain t n : ℕ) (r : RunningWorld) → nat_le 1 r.detail ≡ true → n ≡ t + 1
+    → shown_after domain n r ≡ shown_after domain t r ++ played_lines domain (device_after domain n r)
+unfolding shown_after
+shown_more domain t n r told more =
+    let next : n ≡ suc t = omega (arith, more) in
+    rw next (ap (λ (b : Bool). shown_after domain t r ++ (if b then played_lines domain (device_after domain (suc t) r) else [])) told)
+
+-- a front of the lines of a few ticks is one of those of more
+pub front_shown : (domain t more n : ℕ) (r : RunningWorld) (old new : Option (List ℕ)) → n ≡ more + t
+    → AppendsFront old new (text_of (shown_after domain t r)) → AppendsFront old new (text_of (shown_after domain n r))
+unfolding shown_after
+front_shown domain t zero n r old new is front =
+    let same : t ≡ n = omega (arith, is) in
+    subst (λ (k : ℕ). AppendsFront old new (text_of (shown_after domain k r))) same front
+front_shown domain t (suc more) n r old new is front =
+    let next : suc (more + t) ≡ n = omega (arith, is) in
+    let last : List Said = if nat_le 1 r.detail then played_lines domain (device_after domain (suc (more + t)) r) else [] in
+    subst (λ (k : ℕ). AppendsFront old new (text_of (shown_after domain k r))) next
+    (front_of_more old new (shown_after domain (more + t) r) last (front_shown domain t more (more + t) r old new refl front))
 
 -- ---- the jacks
 
@@ -168,10 +212,28 @@ rows_ticked domain count steps shown showing r p q jacks stands own some unmet t
 
 -- ---- what is told
 
--- where so many ticks say nothing, nothing is printed
-pub rows_told : (domain count : ℕ) (meters : List Reading) (r : RunningWorld) (q : RunningFields) (old : Option (List ℕ)) → lines_after domain count r ≡ []
-    → RunningStands q meters (running_after domain count r) → RunningTells {E = Failed} (tick_times count domain r) q meters old old (Ok tt)
-rows_told domain count meters r q old none stands =
-    subst (λ (t : Telling RunningWorld). RunningTells {E = Failed} t q meters old old (Ok tt))
-    (ap (λ (lines : List Said). record { lines = lines; world = running_after domain count r }) (sym none) ∙ sym (ticks_by_parts count domain r))
-    (Appends-nothing old, stands)
+-- what the rows of so many ticks hold is what these played
+pub shows_tick : (domain count tick : ℕ) (r : RunningWorld) (d : device.DeviceFields) → d.function ≡ r.device.function
+    → HoldPlayed domain (tones_of domain r.jacks) count r.device d.rows → tick < count → Shows (Some tick) domain d (device_after domain (tick + 1) r)
+unfolding world_after played_after
+shows_tick domain count tick r d same hold less =
+    let next : tick + 1 ≡ suc tick = omega arith in
+    let function : (device_after domain (tick + 1) r).function ≡ r.device.function = ticked_function domain (tones_of domain r.jacks) (tick + 1) r.device in
+    record {
+      function = same ∙ sym function;
+      last = λ none. absurd (cc);
+      earlier = λ t is id end.
+          let one : tick ≡ t = same_Some tick t is in
+          let own : is_end domain (entity_in r.device id) ≡ true = subst (λ (f : FunctionFields). is_end domain (entity f.entities id) ≡ true) function end in
+          ap (λ (k : ℕ). frame_on (frames_at k d.rows) id) (sym one) ∙ hold tick less id own
+          ∙ ap (λ (w : DeviceWorld). Some (w.played id))
+          (sym (world_by_parts domain (tones_of domain r.jacks) (suc tick) r.device) ∙ ap (λ (k : ℕ). device_after domain k r) (sym next));
+    }
+
+-- so many ticks are done, and what they say is printed
+pub rows_told : {E : Type 0} (domain count : ℕ) (meters : List Reading) (r : RunningWorld) (q : RunningFields) (old new : Option (List ℕ)) (result : Result (Unit {0}) E)
+    → Prints old new result (lines_after domain count r) → RunningStands q meters (running_after domain count r)
+    → RunningTells (tick_times count domain r) q meters old new result
+rows_told domain count meters r q old new result printed stands =
+    subst (λ (t : Telling RunningWorld). RunningTells t q meters old new result) (sym (ticks_by_parts count domain r))
+    (printed, at_ok (RunningStands q meters (running_after domain count r)) result stands)

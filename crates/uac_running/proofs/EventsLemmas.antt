@@ -7,7 +7,9 @@ use Rattle.uac_pcm.specs.declared.tones.Tone.{Tone}
 use Rattle.uac_units.specs.Hearing.{Reading, at_most_u64}
 use Rattle.uac_rate.specs.Steadiness as steadiness
 use Rattle.uac_device.specs.DeviceKept as device
-use Rattle.uac_device.specs.DeviceWorld.{DeviceWorld, after_advance, after_frames, after_deviation, heard_of, met_of, next_ticks, renders_of, set_jack, step_in, after_tick}
+use Rattle.uac_device.specs.DeviceWorld.{DeviceWorld, after_advance, after_frames, after_deviation, heard_of, met_of, next_ticks, renders_of, set_jack, after_tick}
+use Rattle.uac_device.specs.DeviceSums.{after_advances, ticks_over}
+use Rattle.uac_device.proofs.DeviceSumsLemmas.{advances_by_parts}
 use Rattle.uac_device.specs.declared.ticking.Ticked.{Ticked}
 use Rattle.uac_script.specs.Phrase.{PhraseMark}
 use Rattle.uac_transcript.specs.Printing.{Prints, text_of}
@@ -32,7 +34,7 @@ use Rattle.uac_running.specs.RunningTransfers.{break_at, with_break}
 use Rattle.uac_running.specs.RunningKept.{RunningFields, RunningStands, RunningStandsBetween, RunningTells, RunningTellsBetween}
 use Rattle.uac_running.specs.TickCounts.{tick_count_of, more_counted}
 use Rattle.uac_running.specs.Silence.{AreAtRest}
-use Rattle.uac_running.proofs.RunningKeptLemmas.{clocks_of, tick_count_of-off, tick_count_of-stepped}
+use Rattle.uac_running.proofs.RunningKeptLemmas.{clocks_of, tick_count_of-off, tick_count_of-over}
 use Rattle.uac_running.proofs.TellingLemmas.{at_ok, front_then, ok_then, tells_following, tells_then}
 
 -- ---- events one after the other
@@ -90,9 +92,9 @@ stands_beside s d e w v stands kept same = record {
 -- ---- the device and its counts under events
 
 module _ (meters : List Reading) (r : RunningWorld) (p q : RunningFields) (stands : RunningStands p meters r) where
-  pub passed : q ≡ record p { time = at_most_u64 (p.time + 1) } → RunningStands q meters (record r { time = at_most_u64 (r.time + 1) })
-  passed is =
-      let P : RunningFields → Type 0 = λ x. RunningStands x meters (record r { time = at_most_u64 (r.time + 1) }) in
+  pub passed_by : (n : ℕ) → q ≡ record p { time = at_most_u64 (p.time + n) } → RunningStands q meters (record r { time = at_most_u64 (r.time + n) })
+  passed_by n is =
+      let P : RunningFields → Type 0 = λ x. RunningStands x meters (record r { time = at_most_u64 (r.time + n) }) in
       subst P (sym is)
       (record {
         streaming = stands.streaming;
@@ -101,11 +103,14 @@ module _ (meters : List Reading) (r : RunningWorld) (p q : RunningFields) (stand
         breaks = stands.breaks;
         jacks = stands.jacks;
         counts = stands.counts;
-        time = ap (λ n. at_most_u64 (n + 1)) stands.time;
+        time = ap (λ k. at_most_u64 (k + n)) stands.time;
         detail = stands.detail;
         meters = stands.meters;
         renders = stands.renders;
       })
+
+  pub passed : q ≡ record p { time = at_most_u64 (p.time + 1) } → RunningStands q meters (record r { time = at_most_u64 (r.time + 1) })
+  passed is = passed_by 1 is
 
   pub detailed : (level : ℕ) → q ≡ record p { detail = level } → RunningStands q meters (with_detail level r)
   unfolding with_detail
@@ -178,21 +183,23 @@ module _ (meters : List Reading) (r : RunningWorld) (p q : RunningFields) (stand
     renders = renders ∙ stands.renders;
   }
 
-  pub advanced_on : (clock n : ℕ) → device.DeviceStands q.device (after_advance clock r.device) → n ≡ next_ticks clock r.device → IsDistinct eqb (clocks_of p.counts)
-      → q.streaming ≡ p.streaming → q.counts ≡ map (more_counted clock n) p.counts → q.jacks ≡ p.jacks → q.time ≡ p.time → q.detail ≡ p.detail → q.renders ≡ p.renders → IsBeside p q
-      → RunningStands q meters (record r { device = after_advance clock r.device })
-  unfolding after_advance next_ticks
-  advanced_on clock n kept is once same counts jacks time detail renders beside = record {
-    streaming = subst (λ (s : StreamingFields). streaming.StreamingStands s q.device (record (streaming_of r) { device = after_advance clock r.device })) (sym same)
-        (stands_beside p.streaming p.device q.device (streaming_of r) (after_advance clock r.device) stands.streaming kept refl);
+  pub advanced_over : (clock n ticks : ℕ) → device.DeviceStands q.device (after_advances clock n r.device) → ticks ≡ ticks_over clock n r.device
+      → IsDistinct eqb (clocks_of p.counts) → q.streaming ≡ p.streaming → q.counts ≡ map (more_counted clock ticks) p.counts
+      → q.jacks ≡ p.jacks → q.time ≡ p.time → q.detail ≡ p.detail → q.renders ≡ p.renders → IsBeside p q
+      → RunningStands q meters (record r { device = after_advances clock n r.device })
+  advanced_over clock n ticks kept is once same counts jacks time detail renders beside = record {
+    streaming = subst (λ (s : StreamingFields). streaming.StreamingStands s q.device (record (streaming_of r) { device = after_advances clock n r.device })) (sym same)
+        (stands_beside p.streaming p.device q.device (streaming_of r) (after_advances clock n r.device) stands.streaming kept
+        (ap (λ (w : DeviceWorld). w.function) (advances_by_parts clock n r.device)));
     view = beside.view ∙ stands.view;
     configuration = beside.configuration ∙ stands.configuration;
     breaks = beside.breaks ∙ stands.breaks;
     jacks = jacks ∙ stands.jacks;
     counts =
         counts
-        ∙ ap (map (more_counted clock n)) stands.counts
-        ∙ tick_count_of-stepped clock n (step_in r.device) r.device.domains (subst (λ (cs : List TickCount). IsDistinct eqb (clocks_of cs)) stands.counts once) is;
+        ∙ ap (map (more_counted clock ticks)) stands.counts
+        ∙ ap (λ (k : ℕ). map (more_counted clock k) (map tick_count_of r.device.domains)) is
+        ∙ tick_count_of-over clock n r.device (subst (λ (cs : List TickCount). IsDistinct eqb (clocks_of cs)) stands.counts once);
     time = time ∙ stands.time;
     detail = detail ∙ stands.detail;
     meters = stands.meters;

@@ -16,6 +16,7 @@ pub mod RunningLinesReportLemmas
 pub mod EventTicksLemmas
 pub mod EventRowsLemmas
 pub mod QuietLemmas
+pub mod LossesLemmas
 pub mod AheadStandsLemmas
 pub mod AheadLemmas
 pub mod Worked

@@ -1,5 +1,5 @@
 -- Microframes of a device of one domain that runs no stream, at detail 0: they say nothing, and their ticks may wait.
-use Rattle.std.proofs.Common.{◌≡◌, ◌∙◌, sym, ap, arith, subst, refl, ℕ, zero, suc, ◌+◌, ◌==◌, ◌&&◌, nat_le, Bool, true, false, if◌then◌else◌, List, [], ◌∷◌, ◌++◌, map, filter, Option, None, inl, inr}
+use Rattle.std.proofs.Common.{◌≡◌, ◌∙◌, sym, ap, arith, subst, refl, ℕ, zero, suc, ◌+◌, ◌≤◌, ◌==◌, ◌&&◌, nat_le, Bool, true, false, if◌then◌else◌, List, [], ◌∷◌, ◌++◌, map, filter, Option, None, inl, inr}
 use Rattle.std.proofs.Math.Bool.{and-false}
 use Rattle.std.proofs.Math.Path.{fun_ext}
 use Rattle.std.specs.Option.{option_map, option_map_or}
@@ -12,6 +12,7 @@ use Rattle.uac_script.specs.Phrase.{PhraseMark}
 use Rattle.uac_flow.specs.FlowStreams.{InStream, OutStream, after_ticks, in_after_end, is_dry, is_full, out_after_end}
 use Rattle.uac_device.specs.InterfaceStreams.{NoneRuns, changed_where, streams_changed_at}
 use Rattle.uac_device.specs.DeviceWorld.{DeviceWorld, Domain, after_advance, after_end, after_frames, after_tick, heard_of, input_of, is_on, next_ticks, renders_of, set_jack, step_in, steps_with_next, streamed_frame}
+use Rattle.uac_device.specs.DeviceSums.{after_advances, ticks_over}
 use Rattle.uac_device.specs.declared.jacks.Jack.{Jack}
 use Rattle.uac_ring.specs.declared.counts.StreamCounts.{StreamCounts}
 use Rattle.uac_transcript.specs.Transcript.{Said, says_over, says_under}
@@ -320,19 +321,61 @@ unfolding microframes
 last_microframe marks zero r = refl
 last_microframe marks (suc n) r = last_microframe marks n (microframe marks r).world
 
-pub one_microframe_more : (marks : List PhraseMark) (n : ℕ) (r : RunningWorld) → (microframe marks (microframes marks n r).world).world ≡ (microframes marks (n + 1) r).world
-one_microframe_more marks n r =
-    let same : suc n ≡ n + 1 = omega arith in
-    sym (last_microframe marks n r) ∙ ap (λ (k : ℕ). (microframes marks k r).world) same
+-- ---- several microframes, whose ticks are still to come
+
+unfoldable gone_times : ℕ → ℕ → RunningWorld → RunningWorld
+gone_times zero domain r = r
+gone_times (suc n) domain r = gone_on domain (gone_times n domain r)
+
+quiet_gone : (n domain : ℕ) (r : RunningWorld) → IsQuiet domain r → IsQuiet domain (gone_times n domain r)
+unfolding gone_times
+quiet_gone zero domain r q = q
+quiet_gone (suc n) domain r q = quiet_gone_on domain (gone_times n domain r) (quiet_gone n domain r q)
+
+device_gone : (n domain : ℕ) (r : RunningWorld) → (gone_times n domain r).device ≡ after_advances domain n r.device
+unfolding gone_times after_advances
+device_gone zero domain r = refl
+device_gone (suc n) domain r = ap (after_advance domain) (device_gone n domain r)
+
+-- they are counted at once, and the clock goes on by all of them
+gone_over : (n domain : ℕ) (r : RunningWorld)
+    → gone_times (suc n) domain r ≡ record r { time = at_most_u64 (r.time + suc n); device = after_advances domain (suc n) r.device }
+unfolding gone_times after_advances
+gone_over zero domain r = refl
+gone_over (suc n) domain r =
+    let same : at_most_u64 (at_most_u64 (r.time + suc n) + 1) ≡ at_most_u64 (r.time + suc (suc n)) = omega arith in
+    ap (gone_on domain) (gone_over n domain r)
+    ∙ ap (λ (time : ℕ). record r { time = time; device = after_advances domain (suc (suc n)) r.device }) same
+
+-- so many microframes are their ticks, after so many microframes more
+microframes_wait : (marks : List PhraseMark) (n domain : ℕ) (r : RunningWorld) → IsQuiet domain r
+    → (microframes marks n r).world ≡ ticked (ticks_over domain n r.device) domain (gone_times n domain r)
+unfolding microframes ticks_over gone_times tick_times
+microframes_wait marks zero domain r q = refl
+microframes_wait marks (suc n) domain r q =
+    last_microframe marks n r
+    ∙ ap (λ (w : RunningWorld). (microframe marks w).world) (microframes_wait marks n domain r q)
+    ∙ more_wait marks (ticks_over domain n r.device) domain (gone_times n domain r) (quiet_gone n domain r q)
+    ∙ ap (λ (w : DeviceWorld). ticked (ticks_over domain n r.device + next_ticks domain w) domain (gone_on domain (gone_times n domain r)))
+    (device_gone n domain r)
+
+pub quiet_later : (marks : List PhraseMark) (n domain : ℕ) (r : RunningWorld) → IsQuiet domain r → IsQuiet domain (microframes marks n r).world
+quiet_later marks n domain r q =
+    subst (IsQuiet domain) (sym (microframes_wait marks n domain r q))
+    (quiet_ticked (ticks_over domain n r.device) domain (gone_times n domain r) (quiet_gone n domain r q))
+
+-- so many microframes and then so many more
+pub microframes_join : (marks : List PhraseMark) (n k : ℕ) (r : RunningWorld)
+    → (microframes marks k (microframes marks n r).world).world ≡ (microframes marks (n + k) r).world
+unfolding microframes
+microframes_join marks zero k r =
+    let same : k ≡ 0 + k = omega arith in
+    ap (λ (j : ℕ). (microframes marks j r).world) same
+microframes_join marks (suc n) k r =
+    let same : suc (n + k) ≡ suc n + k = omega arith in
+    microframes_join marks n k (microframe marks r).world ∙ ap (λ (j : ℕ). (microframes marks j r).world) same
 
 -- ---- ticks that wait
-
-pub waits_quiet : (domain waiting : ℕ) (p : RunningFields) (shown : List Reading) (r : RunningWorld) → Waits domain waiting p shown r → IsQuiet domain r
-waits_quiet domain waiting p shown r waits = subst (IsQuiet domain) (sym waits.done) (quiet_ticked waiting domain waits.before waits.quiet)
-
-pub none_waits : (domain : ℕ) (p : RunningFields) (shown : List Reading) (r : RunningWorld) → RunningStands p shown r → IsQuiet domain r → Waits domain 0 p shown r
-unfolding tick_times
-none_waits domain p shown r stands quiet = record { before = r; stands = stands; quiet = quiet; done = refl }
 
 -- what waited is done
 pub waited : (domain waiting : ℕ) (p q : RunningFields) (shown showing : List Reading) (r : RunningWorld) (waits : Waits domain waiting p shown r)
@@ -340,19 +383,21 @@ pub waited : (domain waiting : ℕ) (p q : RunningFields) (shown showing : List 
 waited domain waiting p q shown showing r waits stands =
     subst (RunningStands q showing) (world_ticked waiting domain waits.before ∙ sym waits.done) stands
 
--- the ticks of one microframe more wait
-pub waits_more : (marks : List PhraseMark) (domain left more : ℕ) (p q : RunningFields) (shown : List Reading) (r : RunningWorld) (waits : Waits domain left p shown r)
-    → more ≡ next_ticks domain waits.before.device → RunningStands q shown (gone_on domain waits.before) → Waits domain (left + more) q shown (microframe marks r).world
-waits_more marks domain left more p q shown r waits same stands = record {
-  before = gone_on domain waits.before;
-  stands = stands;
-  quiet = quiet_gone_on domain waits.before waits.quiet;
+-- the ticks of so many microframes wait
+pub waits_over : (marks : List PhraseMark) (domain n ticks : ℕ) (p : RunningFields) (shown : List Reading) (r : RunningWorld) → 1 ≤ n → IsQuiet domain r
+    → ticks ≡ ticks_over domain n r.device → RunningStands p shown (record r { time = at_most_u64 (r.time + n); device = after_advances domain n r.device })
+    → Waits domain ticks p shown (microframes marks n r).world
+waits_over marks domain zero ticks p shown r some quiet same stands = absurd (let none : 1 ≤ 0 = some in omega (arith, none))
+waits_over marks domain (suc n) ticks p shown r some quiet same stands = record {
+  before = gone_times (suc n) domain r;
+  stands = subst (RunningStands p shown) (sym (gone_over n domain r)) stands;
+  quiet = quiet_gone (suc n) domain r quiet;
   done =
-      ap (λ (w : RunningWorld). (microframe marks w).world) waits.done ∙ more_wait marks left domain waits.before waits.quiet
-      ∙ ap (λ (n : ℕ). ticked (left + n) domain (gone_on domain waits.before)) (sym same);
+      microframes_wait marks (suc n) domain r quiet
+      ∙ ap (λ (k : ℕ). ticked k domain (gone_times (suc n) domain r)) (sym same);
 }
 
--- ---- several microframes
+-- ---- what several microframes leave
 
 -- the world after a microframe
 abbrev next_world : ℕ → RunningWorld → RunningWorld

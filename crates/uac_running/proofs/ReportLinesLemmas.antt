@@ -3,7 +3,7 @@ use Rattle.std.proofs.Common.{◌≡◌, ℕ, ◌<◌, ◌==◌, ◌&&◌, Bool,
 use Rattle.std.specs.Prelude.{filter}
 use Rattle.std.specs.List.{All}
 use Rattle.std.specs.Option.{option_map}
-use Rattle.std.proofs.lemmas.Bool.{cases_lt, cond-true, eq-eqb}
+use Rattle.std.proofs.lemmas.Bool.{and_from, and_parts, cases_lt, cond-true, eq-eqb}
 use Rattle.std.specs.List.{position_or_len}
 use Rattle.std.proofs.lemmas.List.Elements.{All-filter, All-map, filter_passes}
 use Rattle.std.proofs.lemmas.List.Sums.{prefix_len_passes}
@@ -22,6 +22,9 @@ use Rattle.uac_alt.specs.declared.settings.InterfaceSetting.{InterfaceSetting}
 use Rattle.uac_units.specs.Hearing.{Reading}
 use Rattle.uac_units.specs.declared.meter.MeterKind.{MeterKind}
 use Rattle.uac_graph.specs.Meaning.{entity}
+use Rattle.uac_graph.specs.Needs.{is_end}
+use Rattle.uac_graph.specs.TickRows.{frames_at}
+use Rattle.uac_graph.specs.Wiring.{samples_on}
 use Rattle.uac_graph.specs.Fitness.{IsSignalGraph}
 use Rattle.uac_graph.proofs.FitnessLemmas.{sound_graph}
 use Rattle.uac_edges.specs.Writing.{Writes}
@@ -35,7 +38,7 @@ use Rattle.uac_device.specs.DeviceTurns.{jack_of, jacks_of}
 use Rattle.uac_device.specs.declared.hearing.OutputJack.{OutputJack}
 use Rattle.uac_running.specs.declared.counts.TickCount.{TickCount}
 use Rattle.uac_running.specs.TickCounts.{tick_count_of}
-use Rattle.uac_running.specs.ReportLines.{domain_line, played_line, played_lines, says_stream, stream_line}
+use Rattle.uac_running.specs.ReportLines.{Shows, domain_line, played_line, played_lines, says_stream, stream_line}
 
 -- ---- what output jacks played
 
@@ -91,6 +94,30 @@ jacks_are function sound =
     own : All (λ (e : Entity). entity function.entities e.id ≡ e) (filter is_output_jack function.entities)
     own = All-filter is_output_jack (λ (e : Entity). entity function.entities e.id ≡ e) function.entities
         (each_own function.entities (sound_graph function sound))
+
+-- and the terminal is of the jack's domain
+pub jacks_clocked : (function : FunctionFields) → IsSoundFunction function
+    → All (λ (j : OutputJack). (entity function.entities j.terminal).clock ≡ j.domain) (jacks_of function.entities)
+jacks_clocked function sound =
+    All-map (λ (j : OutputJack). (entity function.entities j.terminal).clock ≡ j.domain) jack_of (filter is_output_jack function.entities)
+    (λ k d below. ap (λ (e : Entity). e.clock)
+    (All-filter is_output_jack (λ (e : Entity). entity function.entities e.id ≡ e) function.entities (each_own function.entities (sound_graph function sound)) k d below))
+
+-- what a device that stands for a world played last
+pub shows_last : (domain : ℕ) (device : DeviceFields) (w : DeviceWorld) → DeviceStands device w → Shows None domain device w
+shows_last domain device w stands = record { function = stands.function; last = λ none. stands; earlier = λ t is. absurd (cc) }
+
+-- what it played at an earlier tick
+pub earlier_played : (tick domain clock : ℕ) (device : DeviceFields) (w : DeviceWorld) (id : ℕ) → Shows (Some tick) domain device w
+    → is_output_jack (entity device.function.entities id) ≡ true → (entity device.function.entities id).clock ≡ clock → clock ≡ domain
+    → samples_on (frames_at tick device.rows) id ≡ w.played id
+earlier_played tick domain clock device w id shows jack of_clock here =
+    let output : is_output (entity device.function.entities id).kind ≡ true =
+    (and_parts (is_output (entity device.function.entities id).kind) (is_jack (entity device.function.entities id)) jack).0 in
+    let end : is_end domain (entity device.function.entities id) ≡ true =
+    and_from (is_output (entity device.function.entities id).kind) _ output (eq-eqb _ _ (of_clock ∙ here)) in
+    ap (λ (frame : Option (List ℤ)). unwrap_or frame [])
+    (shows.earlier tick refl id (subst (λ (f : FunctionFields). is_end domain (entity f.entities id) ≡ true) shows.function end))
 
 -- a terminal that is one has a frame
 played_here : (w : DeviceWorld) (device : DeviceFields) (id : ℕ) → DeviceStands device w → is_output_jack (entity device.function.entities id) ≡ true

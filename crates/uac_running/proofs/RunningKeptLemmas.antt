@@ -1,5 +1,5 @@
 -- The ticks of the domains, counted.
-use Rattle.std.proofs.Common.{◌≡◌, ◌∙◌, sym, ap, subst, refl, arith, ℕ, ◌+◌, ◌-◌, ◌/◌, ◌==◌, eqb, false, if◌then◌else◌, ℤ, List, [], ◌∷◌, ◌++◌, length, map, take, sum, inl, inr, length-append}
+use Rattle.std.proofs.Common.{◌≡◌, ◌∙◌, sym, ap, subst, refl, arith, ℕ, zero, suc, ◌+◌, ◌-◌, ◌/◌, ◌==◌, eqb, Bool, true, false, if◌then◌else◌, ℤ, List, [], ◌∷◌, ◌++◌, length, map, take, sum, inl, inr, length-append}
 use Rattle.std.specs.List.{AllByRecursion, IsDistinct, find}
 use Rattle.std.specs.Option.{option_map_or}
 use Rattle.std.proofs.lemmas.Bool.{cases_Bool, eqb-true, eqb-false, ne_eqb}
@@ -7,7 +7,8 @@ use Rattle.std.proofs.lemmas.List.Sums.{sum_by_push}
 use Rattle.std.proofs.lemmas.Map.Keys.{IsDistinct-head, IsDistinct-tail}
 use Rattle.uac_units.specs.Hearing.{at_most_u64}
 use Rattle.uac_clock.specs.Ticks.{ticks_in}
-use Rattle.uac_device.specs.DeviceWorld.{Domain}
+use Rattle.uac_device.specs.DeviceWorld.{DeviceWorld, Domain, after_advance, next_ticks, step_in}
+use Rattle.uac_device.specs.DeviceSums.{after_advances, ticks_over}
 use Rattle.uac_running.specs.declared.counts.TickCount.{TickCount}
 use Rattle.uac_topology.specs.Function.{FunctionFields}
 use Rattle.uac_running.specs.RunningKept.{HasItsDomains, RunningFields}
@@ -94,6 +95,48 @@ clocks-more clock n (c ∷ cs) =
       | inl same ↦ rw same (ap (λ (ys : List ℕ). c.domain ∷ ys) (clocks-more clock n cs))
       | inr other ↦ rw other (ap (λ (ys : List ℕ). c.domain ∷ ys) (clocks-more clock n cs))
     ]
+
+-- so many ticks and then so many more are counted at once
+counted_join : (clock a b : ℕ) (counts : List TickCount) → map (more_counted clock b) (map (more_counted clock a) counts) ≡ map (more_counted clock (a + b)) counts
+counted_join clock a b [] = refl
+counted_join clock a b (c ∷ cs) =
+    ap (λ (d : TickCount). d ∷ map (more_counted clock b) (map (more_counted clock a) cs)) (one (c.domain == clock) refl)
+    ∙ ap (λ (ds : List TickCount). more_counted clock (a + b) c ∷ ds) (counted_join clock a b cs)
+  where
+    one : (on : Bool) → (c.domain == clock) ≡ on
+        → more_counted clock b (if on then record c { ticks = at_most_u64 (c.ticks + a) } else c) ≡ (if on then record c { ticks = at_most_u64 (c.ticks + (a + b)) } else c)
+    one true same =
+        let sum : c.ticks + a + b ≡ c.ticks + (a + b) = omega arith in
+        ap (λ (on : Bool). if on then record c { ticks = at_most_u64 (at_most_u64 (c.ticks + a) + b) } else record c { ticks = at_most_u64 (c.ticks + a) }) same
+        ∙ ap (λ (ticks : ℕ). record c { ticks = ticks }) (at_most_u64-more (c.ticks + a) (c.ticks + (a + b)) b sum)
+    one false other = ap (λ (on : Bool). if on then record c { ticks = at_most_u64 (c.ticks + b) } else c) other
+
+no_more_counted : (clock : ℕ) (ds : List Domain) → map (more_counted clock 0) (map tick_count_of ds) ≡ map tick_count_of ds
+no_more_counted clock [] = refl
+no_more_counted clock (d ∷ ds) =
+    ap (λ (c : TickCount). c ∷ map (more_counted clock 0) (map tick_count_of ds)) (one (d.id == clock))
+    ∙ ap (λ (cs : List TickCount). tick_count_of d ∷ cs) (no_more_counted clock ds)
+  where
+    one : (on : Bool) → (if on then record (tick_count_of d) { ticks = at_most_u64 (at_most_u64 (sum d.steps / 65536) + 0) } else tick_count_of d) ≡ tick_count_of d
+    one true =
+        let same : sum d.steps / 65536 + 0 ≡ sum d.steps / 65536 = omega arith in
+        ap (λ (ticks : ℕ). counted_of d.id ticks) (at_most_u64-more (sum d.steps / 65536) (sum d.steps / 65536) 0 same)
+    one false = refl
+
+-- where a domain's clock goes on by so many microframes, its ticks are counted
+pub tick_count_of-over : (clock n : ℕ) (w : DeviceWorld) → IsDistinct eqb (clocks_of (map tick_count_of w.domains))
+    → map (more_counted clock (ticks_over clock n w)) (map tick_count_of w.domains) ≡ map tick_count_of (after_advances clock n w).domains
+unfolding after_advances ticks_over after_advance next_ticks
+tick_count_of-over clock zero w once = no_more_counted clock w.domains
+tick_count_of-over clock (suc n) w once =
+    let before : map (more_counted clock (ticks_over clock n w)) (map tick_count_of w.domains) ≡ map tick_count_of (after_advances clock n w).domains =
+    tick_count_of-over clock n w once in
+    let same : clocks_of (map tick_count_of w.domains) ≡ clocks_of (map tick_count_of (after_advances clock n w).domains) =
+    sym (clocks-more clock (ticks_over clock n w) (map tick_count_of w.domains)) ∙ ap clocks_of before in
+    sym (counted_join clock (ticks_over clock n w) (next_ticks clock (after_advances clock n w)) (map tick_count_of w.domains))
+    ∙ ap (map (more_counted clock (next_ticks clock (after_advances clock n w)))) before
+    ∙ tick_count_of-stepped clock (next_ticks clock (after_advances clock n w)) (step_in (after_advances clock n w)) (after_advances clock n w).domains
+    (subst (IsDistinct eqb) same once) refl
 
 -- the domains stay counted once
 pub domains_kept : (p q : RunningFields) → q.device.function ≡ p.device.function → clocks_of q.counts ≡ clocks_of p.counts → HasItsDomains p → HasItsDomains q

@@ -2,6 +2,7 @@
 -- reports are those of the ticks done, and samples come later.
 use Rattle.std.specs.Prelude.{◌≡◌, ℕ, ◌+◌, ◌≤◌, List, [], ◌∷◌, length}
 use Rattle.uac_units.specs.Hearing.{Reading, at_most_u64}
+use Rattle.uac_script.specs.Phrase.{PhraseMark}
 use Rattle.uac_device.specs.DeviceWorld.{DeviceWorld, after_advance, next_ticks}
 use Rattle.uac_device.specs.DeviceTicks.{MeetsNothing, after_tick_times, readings_after}
 use Rattle.uac_device.specs.DeviceWaits.{HaveSent, SentAreThere, settled}
@@ -53,7 +54,7 @@ pub record IsAhead (domain ticks sent : ℕ) (running : RunningFields) (shown : 
 abbrev pub numbered : RunningWorld → RunningWorld
 numbered r = record r { time = at_most_u64 (r.time + 1) }
 
--- the streams after the packets to the device
+-- the streams after the packets to the device, of which none is lost
 abbrev pub outs_sent : RunningWorld → StreamingWorld
 outs_sent r = (out_packets 0 [] (streaming_of r)).world
 
@@ -71,8 +72,8 @@ clocked domain r = with_device (after_advance domain (outs_sent r).device) (outs
 abbrev pub ended : ℕ → RunningWorld → StreamingWorld
 ended domain r = (all_ends 0 (clocked domain r)).world
 
--- the world after a microframe, before the ticks that wait
-abbrev pub gone_ahead : ℕ → ℕ → ℕ → RunningWorld → RunningWorld
-gone_ahead domain ticks sent r =
+-- the world after a microframe in which these feedback reports are lost, before the ticks that wait
+abbrev pub gone_ahead : List PhraseMark → ℕ → ℕ → ℕ → RunningWorld → RunningWorld
+gone_ahead marks domain ticks sent r =
     let later = with_streaming r (ended domain r) in
-    with_streaming r (after_reports_of (device_settled domain (ticks_then domain ticks r) (sent_then ticks sent r) later) (ended domain r))
+    with_streaming r (after_reports_of marks (device_settled domain (ticks_then domain ticks r) (sent_then ticks sent r) later) (ended domain r))

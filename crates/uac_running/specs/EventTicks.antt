@@ -58,3 +58,8 @@ lines_after domain (suc t) r = lines_after domain t r ++ lines_at domain t r
 -- so many ticks, part by part
 abbrev pub ticks_told : ℕ → ℕ → RunningWorld → Telling RunningWorld
 ticks_told domain t r = record { lines = lines_after domain t r; world = running_after domain t r }
+
+-- what so many ticks say that find no ring empty and none full
+unfoldable pub shown_after : ℕ → ℕ → RunningWorld → List Said
+shown_after domain zero r = []
+shown_after domain (suc t) r = shown_after domain t r ++ (if nat_le 1 r.detail then played_lines domain (device_after domain (suc t) r) else [])

@@ -1,13 +1,17 @@
 -- The lines that are said of a device's output jacks, and those of its domains and interfaces in the report (profile).
-use Rattle.std.specs.Prelude.{ℕ, ◌/◌, Bool, true, false, List, map, filter, sum, Option, unwrap_or}
+use Rattle.std.specs.Prelude.{◌≡◌, ℕ, ◌/◌, Bool, true, false, List, map, filter, sum, Option, None, Some, unwrap_or}
 use Rattle.uac_entities.specs.declared.entity.Entity.{Entity}
 use Rattle.uac_entities.specs.declared.stream.StreamInterface.{StreamInterface}
+use Rattle.uac_graph.specs.Needs.{is_end}
+use Rattle.uac_graph.specs.TickRows.{frames_at}
+use Rattle.uac_graph.specs.Wiring.{frame_on}
 use Rattle.uac_store.specs.Rates.{rate_of}
 use Rattle.uac_alt.specs.AltSettings.{setting_of}
 use Rattle.uac_units.specs.Hearing.{at_most_u64}
 use Rattle.uac_ring.specs.declared.counts.StreamCounts.{StreamCounts}
 use Rattle.uac_transcript.specs.Transcript.{Said, says_played, says_domain, says_out_stream, says_in_stream}
-use Rattle.uac_device.specs.DeviceWorld.{Domain, DeviceWorld, is_output_jack_of, level_of, target_of}
+use Rattle.uac_device.specs.DeviceKept.{DeviceFields, DeviceStands}
+use Rattle.uac_device.specs.DeviceWorld.{Domain, DeviceWorld, entity_in, is_output_jack_of, level_of, target_of}
 
 -- the output jacks of a domain, in block order
 abbrev pub output_jacks : ℕ → DeviceWorld → List Entity
@@ -20,6 +24,13 @@ played_line w e = says_played e.id (w.played e.id)
 -- what a domain's output jacks played
 unfoldable pub played_lines : ℕ → DeviceWorld → List Said
 played_lines domain w = map (played_line w) (output_jacks domain w)
+
+-- a device has what a world's output terminals of a domain played: in the last tick, or in one of those that it did at once last
+pub record Shows (tick : Option ℕ) (domain : ℕ) (device : DeviceFields) (w : DeviceWorld) : Type 0 where
+  pub function : device.function ≡ w.function
+  pub last : tick ≡ None → DeviceStands device w
+  pub earlier :
+      (t : ℕ) → tick ≡ Some t → (id : ℕ) → is_end domain (entity_in w id) ≡ true → frame_on (frames_at t device.rows) id ≡ Some (w.played id)
 
 -- ---- the report
 

@@ -6,11 +6,12 @@ ghost use Rattle.uac_units.specs.Hearing.{Reading};
 ghost use Rattle.uac_units.specs.MeterReadings.{readings};
 ghost use Rattle.uac_edges.specs.Faults.{HasCause};
 ghost use Rattle.uac_script.specs.Line.{phrase_mark};
+ghost use Rattle.uac_script.specs.Losses.{marks_feedback};
 ghost use Rattle.uac_device.specs.DeviceWorld.{DeviceWorld, feedback_in, next_ticks};
 ghost use Rattle.uac_device.specs.DeviceWaits.{AreSteady, HaveSent, SentAreThere, after_sent, feedback_later_in};
 ghost use Rattle.uac_transcript.specs.Printing.{Prints};
 ghost use Rattle.uac_streaming.specs.StreamingWorld.{numbers_out};
-ghost use Rattle.uac_streaming.specs.StreamingWaits.{after_reports_of, fits};
+ghost use Rattle.uac_streaming.specs.StreamingWaits.{LosesNoPacket, after_reports_of, fits};
 ghost use Rattle.uac_running.specs.RunningWorld.{RunningWorld, streaming_of, with_streaming};
 ghost use Rattle.uac_running.specs.Events.{microframe, microframes};
 ghost use Rattle.uac_running.specs.EventTicks.{met_after, running_after};
@@ -20,7 +21,7 @@ ghost use Rattle.uac_running.specs.Ahead.{IsAhead, IsLone, gone_ahead, numbered,
 use crate::microframes::has_narrow_streams;
 use crate::running::Running;
 use uac_edges::{Failed, Sink};
-use uac_script::Mark;
+use uac_script::{Mark, MarkKind};
 use uac_topology::laws::{functions_are_sound, interfaces_are_numbered};
 use uac_units::{Meter, Meters, Rack, Unit};
 
@@ -33,16 +34,16 @@ pub(crate) struct Ahead {
 }
 
 impl Running {
-    /// The only domain of a device at detail 0 with at most one interface that carries a stream from it, in microframes without losses,
-    /// where its ticks are done faster at once.
+    /// The only domain of a device at detail 0 with at most one interface that carries a stream from it, in microframes that lose no
+    /// packet, where its ticks are done faster at once.
     pub(crate) fn lone_domain(&self, marks: &[Mark]) -> Option<u8>
         ensures lone { (meters : List Reading) (r : RunningWorld) → RunningStands self.now meters r
             → IfSome result (λ domain. IsLone domain r) }
-        ensures lossless { IfSome result (λ domain. marks.now ≡ []) }
+        ensures packets { IfSome result (λ domain. LosesNoPacket (map phrase_mark marks.now)) }
     {
         let function = self.device.function();
         if self.detail >= 1
-            || marks.len() > 0
+            || !loses_no_packet(marks)
             || !self.streaming.has_one_in()
             || !has_narrow_streams(function)
         {
@@ -66,10 +67,10 @@ impl Running {
         sink: &mut K,
     ) -> Result<(), Failed>
         requires rack { IsFitted (λ v x. (⟦<dyn Unit as Unit>⟧ v).kind_of x) rack.now }
-        requires lossless { marks.now ≡ [] }
+        requires packets { LosesNoPacket (map phrase_mark marks.now) }
         ensures tells { (r : RunningWorld)
             → RunningStandsBetween self.old (readings (λ v x. (⟦<dyn Meter as Meter>⟧ v).reading_of x) meters.old) r → IsLone domain r
-            → RunningTellsBetween (microframes [] count r) self.new
+            → RunningTellsBetween (microframes (map phrase_mark marks.now) count r) self.new
             (readings (λ v x. (⟦<dyn Meter as Meter>⟧ v).reading_of x) meters.new)
             (K.written sink.old) (K.written sink.new) result }
         ensures cause { HasCause (K.faults sink.old) (K.faults sink.new) result }
@@ -93,14 +94,14 @@ impl Running {
         sink: &mut K,
     ) -> Result<Ahead, Failed>
         requires rack { IsFitted (λ v x. (⟦<dyn Unit as Unit>⟧ v).kind_of x) rack.now }
-        requires lossless { marks.now ≡ [] }
+        requires packets { LosesNoPacket (map phrase_mark marks.now) }
         requires ticks { ahead.ticks ≤ 128 }
         requires sent { ahead.sent ≤ 2176 }
         ensures tells { (r : RunningWorld)
             → IsAhead domain ahead.ticks ahead.sent self.old (readings (λ v x. (⟦<dyn Meter as Meter>⟧ v).reading_of x) meters.old) r
-            → Prints (K.written sink.old) (K.written sink.new) result (microframe [] r).lines
+            → Prints (K.written sink.old) (K.written sink.new) result (microframe (map phrase_mark marks.now) r).lines
             × IfOk result (λ next. IsAhead domain next.ticks next.sent self.new
-            (readings (λ v x. (⟦<dyn Meter as Meter>⟧ v).reading_of x) meters.new) (microframe [] r).world) }
+            (readings (λ v x. (⟦<dyn Meter as Meter>⟧ v).reading_of x) meters.new) (microframe (map phrase_mark marks.now) r).world) }
         ensures ticks { IfOk result (λ next. next.ticks ≤ 128) }
         ensures sent { IfOk result (λ next. next.sent ≤ 2176) }
         ensures cause { HasCause (K.faults sink.old) (K.faults sink.new) result }
@@ -138,13 +139,13 @@ impl Running {
         domain: u8,
         sink: &mut K,
     ) -> Result<Ahead, Failed>
-        requires lossless { marks.now ≡ [] }
+        requires packets { LosesNoPacket (map phrase_mark marks.now) }
         requires ticks { ahead.ticks ≤ 101 }
         requires sent { ahead.sent ≤ 2176 }
         ensures tells { (meters : List Reading) (r : RunningWorld) → RunningStands self.old meters r → IsLone domain r
             → AreSteady domain (ahead.ticks + 27) r.device → list_all (fits (streaming_of r)) (numbers_out r.device.function) ≡ true
             → Prints (K.written sink.old) (K.written sink.new) result []
-            × IfOk result (λ next. RunningStands self.new meters (gone_ahead domain ahead.ticks ahead.sent (numbered r))) }
+            × IfOk result (λ next. RunningStands self.new meters (gone_ahead (map phrase_mark marks.now) domain ahead.ticks ahead.sent (numbered r))) }
         ensures ticks { (meters : List Reading) (r : RunningWorld) → RunningStands self.old meters r → IsLone domain r
             → IfOk result (λ next. next.ticks ≡ ticks_then domain ahead.ticks (numbered r)) }
         ensures sent { (meters : List Reading) (r : RunningWorld) → RunningStands self.old meters r → IsLone domain r
@@ -160,18 +161,19 @@ impl Running {
             .sent_after(&self.device, ahead.ticks, ahead.sent);
         let ticks = ahead.ticks + self.advance(domain);
         self.end_microframe(sink)?;
-        self.give_feedback_later(ticks);
+        self.give_feedback_later(ticks, marks);
         Ok(Ahead { ticks, sent })
     }
 
-    /// The reports of the device as it is when so many ticks that wait are done.
-    fn give_feedback_later(&mut self, ticks: u32)
+    /// The reports of the device as it is when so many ticks that wait are done, with these losses.
+    fn give_feedback_later(&mut self, ticks: u32, marks: &[Mark])
         ensures { (meters : List Reading) (r : RunningWorld) (later : DeviceWorld) → RunningStands self.old meters r
             → later.function ≡ r.device.function
             → ((interface : ℕ) → feedback_in later interface ≡ feedback_later_in r.device interface ticks)
-            → RunningStands self.new meters (with_streaming r (after_reports_of later (streaming_of r))) }
+            → RunningStands self.new meters (with_streaming r (after_reports_of (map phrase_mark marks.now) later (streaming_of r))) }
     {
-        self.streaming.give_feedback_later(&self.device, ticks);
+        self.streaming
+            .give_feedback_later(&self.device, ticks, marks);
     }
 
     /// Does what waits.
@@ -206,5 +208,22 @@ impl Running {
             → RunningStands self.new meters (record r { device = after_sent (sent_of sent r) r.device }) }
     {
         self.streaming.drop_sent(&mut self.device, sent);
+    }
+}
+
+/// Whether no packet is lost where these marks tell what is.
+fn loses_no_packet(marks: &[Mark]) -> bool
+    ensures { result ≡ true → LosesNoPacket (map phrase_mark marks.now) }
+{
+    marks.iter().all(|mark| is_feedback(mark.kind))
+}
+
+fn is_feedback(kind: MarkKind) -> bool
+    ensures { result ≡ marks_feedback kind }
+{
+    match kind {
+        MarkKind::Out => false,
+        MarkKind::In => false,
+        MarkKind::Feedback => true,
     }
 }

@@ -1,5 +1,5 @@
 // The microframes of a running device: packets, ticks, and the ends of microframes.
-ghost use Rattle.std.specs.Prelude.{◌≡◌, ◌++◌, ℕ, List, ◌+◌, ◌<◌, ◌≤◌, nat_le, true, false, if◌then◌else◌, [], IfSome, length, map, slice_index};
+ghost use Rattle.std.specs.Prelude.{◌≡◌, ◌++◌, ℕ, List, ◌+◌, ◌*◌, ◌<◌, ◌≤◌, nat_le, true, false, if◌then◌else◌, [], IfSome, length, map, slice_index};
 ghost use Rattle.std.specs.List.{list_all};
 ghost use Rattle.uac_entities.specs.EntityInterfaces.{channels_of};
 ghost use Rattle.uac_units.specs.Fitting.{IsFitted};
@@ -10,6 +10,8 @@ ghost use Rattle.uac_script.specs.Line.{phrase_mark};
 ghost use Rattle.uac_script.specs.Phrase.{PhraseMark};
 ghost use Rattle.uac_device.specs.DeviceKept as device;
 ghost use Rattle.uac_device.specs.DeviceWorld.{DeviceWorld, ZerosFitIn, after_advance, met_of, next_ticks};
+ghost use Rattle.uac_device.specs.DeviceTicks.{HoldPlayed};
+ghost use Rattle.uac_device.specs.DeviceSums.{after_advances, kept_ticks, ticks_over};
 ghost use Rattle.uac_device.specs.Stillness.{IsStill};
 ghost use Rattle.uac_transcript.specs.Printing.{Prints};
 ghost use Rattle.uac_streaming.specs.StreamingWorld.{all_feedback, all_ends, found_lines, in_packets, out_packets};
@@ -18,7 +20,7 @@ ghost use Rattle.uac_running.specs.ReportLines.{played_lines};
 ghost use Rattle.uac_running.specs.Events.{after_all_jacks, domain_microframe, domain_microframes, ends_and_feedback, microframe};
 ghost use Rattle.uac_running.specs.Events.{microframes};
 ghost use Rattle.uac_running.specs.Events.{number_said, of_streams, packets_and_ticks, tick, tick_times};
-ghost use Rattle.uac_running.specs.EventTicks.{lines_after, met_after, running_after};
+ghost use Rattle.uac_running.specs.EventTicks.{lines_after, met_after, running_after, shown_after, tones_of};
 ghost use Rattle.uac_running.specs.RunningKept.{RunningStands, RunningStandsBetween, RunningTells, RunningTellsBetween};
 ghost use Rattle.uac_running.specs.Quiet.{IsQuiet, Waits};
 ghost use Rattle.uac_running.specs.Silence.{AreAtRest, packets};
@@ -112,8 +114,7 @@ impl Running {
         }
     }
 
-    /// Runs so many microframes of a device of one domain that runs no stream, at detail 0. Clocks go on, and the ticks wait, so that many
-    /// are done at once; none waits at the end.
+    /// Runs so many microframes of a device of one domain that runs no stream, at detail 0. They go several at once.
     fn quiet_microframes(&mut self, count: u32, domain: u8, rack: &Rack, meters: &mut Meters)
         requires rack { IsFitted (λ v x. (⟦<dyn Unit as Unit>⟧ v).kind_of x) rack.now }
         ensures { (marks : List PhraseMark) (r : RunningWorld)
@@ -123,46 +124,28 @@ impl Running {
     {
         functions_are_sound(self.device.function());
         interfaces_are_numbered();
-        let mut waiting = 0;
-        for _passed in 0..count {
-            waiting = self.quiet_microframe(waiting, domain, rack, meters);
+        let mut passed = 0;
+        while passed < count {
+            passed += self.quiet_at_once(count - passed, domain, rack, meters);
         }
-        self.do_waiting(waiting, domain, rack, meters);
     }
 
-    /// One microframe more of such a device, of which so many ticks wait. Answers how many wait then.
-    fn quiet_microframe(
-        &mut self,
-        waiting: u32,
-        domain: u8,
-        rack: &Rack,
-        meters: &mut Meters,
-    ) -> u32
+    /// Several microframes of such a device at once, at most so many: its clock goes on by all of them, and then their ticks are done.
+    /// Answers how many they are, at least one.
+    fn quiet_at_once(&mut self, most: u32, domain: u8, rack: &Rack, meters: &mut Meters) -> u32
         requires rack { IsFitted (λ v x. (⟦<dyn Unit as Unit>⟧ v).kind_of x) rack.now }
-        requires few { waiting ≤ 128 }
-        ensures waits { (marks : List PhraseMark) (r : RunningWorld)
-            → Waits domain waiting self.old (readings (λ v x. (⟦<dyn Meter as Meter>⟧ v).reading_of x) meters.old) r
-            → Waits domain result self.new (readings (λ v x. (⟦<dyn Meter as Meter>⟧ v).reading_of x) meters.new) (microframe marks r).world }
-        ensures few { result ≤ 128 }
+        requires some { 1 ≤ most }
+        ensures stands { (marks : List PhraseMark) (r : RunningWorld)
+            → RunningStands self.old (readings (λ v x. (⟦<dyn Meter as Meter>⟧ v).reading_of x) meters.old) r → IsQuiet domain r
+            → RunningStands self.new (readings (λ v x. (⟦<dyn Meter as Meter>⟧ v).reading_of x) meters.new) (microframes marks result r).world }
+        ensures some { 1 ≤ result }
+        ensures few { result ≤ most }
     {
-        let left = self.make_room(waiting, domain, rack, meters);
-        self.pass();
-        left + self.advance(domain)
-    }
-
-    /// Does the ticks that wait where those of a microframe more might be too many. Answers how many wait then.
-    fn make_room(&mut self, waiting: u32, domain: u8, rack: &Rack, meters: &mut Meters) -> u32
-        requires rack { IsFitted (λ v x. (⟦<dyn Unit as Unit>⟧ v).kind_of x) rack.now }
-        requires few { waiting ≤ 128 }
-        ensures waits { (r : RunningWorld) → Waits domain waiting self.old (readings (λ v x. (⟦<dyn Meter as Meter>⟧ v).reading_of x) meters.old) r
-            → Waits domain result self.new (readings (λ v x. (⟦<dyn Meter as Meter>⟧ v).reading_of x) meters.new) r }
-        ensures room { result ≤ 101 }
-    {
-        if waiting <= 101 {
-            return waiting;
-        }
+        let count = self.device.microframes_within(domain, 128).min(most);
+        self.pass_by(count);
+        let waiting = self.advance_over(domain, count);
         self.do_waiting(waiting, domain, rack, meters);
-        0
+        count
     }
 
     /// Does the ticks that wait.
@@ -300,7 +283,14 @@ impl Running {
     pub(crate) fn pass(&mut self)
         ensures { self.new ≡ record self.old { time = at_most_u64 (self.old.time + 1) } }
     {
-        self.time = self.time.saturating_add(1);
+        self.pass_by(1);
+    }
+
+    /// So many microframes more have come.
+    fn pass_by(&mut self, count: u32)
+        ensures { self.new ≡ record self.old { time = at_most_u64 (self.old.time + count) } }
+    {
+        self.time = self.time.saturating_add(u64::from(count));
     }
 
     /// Prints the number of the microframe from detail 2 on.
@@ -376,7 +366,22 @@ impl Running {
         ensures few { result ≤ 27 }
         ensures function { self.new.device.function ≡ self.old.device.function }
     {
-        let ticks = self.device.ticks(domain);
+        self.advance_over(domain, 1)
+    }
+
+    /// A domain's clock goes on by so many microframes; answers how often it ticks in all of them. These ticks are counted.
+    fn advance_over(&mut self, domain: u8, count: u32) -> u32
+        requires some { 1 ≤ count }
+        requires few { count ≤ 64 }
+        ensures stands { (meters : List Reading) (r : RunningWorld) → RunningStands self.old meters r
+            → RunningStands self.new meters (record r { device = after_advances domain count r.device }) }
+        ensures ticks { (meters : List Reading) (r : RunningWorld) → RunningStands self.old meters r
+            → result ≡ ticks_over domain count r.device }
+        ensures kept { result ≡ kept_ticks self.old.device domain count }
+        ensures few { result ≤ 27 * count }
+        ensures function { self.new.device.function ≡ self.old.device.function }
+    {
+        let ticks = self.device.ticks_over(domain, count);
         count_ticks(&mut self.counts, domain, ticks);
         ticks
     }
@@ -397,24 +402,41 @@ impl Running {
         ensures cause { HasCause (K.faults sink.old) (K.faults sink.new) result }
         ensures function { self.new.device.function ≡ self.old.device.function }
     {
-        if has_narrow_streams(self.device.function()) && self.says_nothing(count, domain) {
+        if has_narrow_streams(self.device.function()) && self.meets_nothing(count, domain) {
             self.tick_rows(count, domain, rack, meters);
-            return Ok(());
+            return self.show_rows(count, domain, sink);
         }
         self.tick_each(count, domain, rack, meters, sink)
     }
 
-    /// Whether so many ticks of a domain say nothing and are done at once: at detail 0, where no ring is found empty or full. Fewer than
-    /// six are done as fast one after the other.
-    fn says_nothing(&self, count: u32, domain: u8) -> bool
-        ensures some { result ≡ true → 6 ≤ count }
+    /// Whether so many ticks of a domain are done at once, where none of them finds a ring empty or full. A single one is done faster by
+    /// itself.
+    fn meets_nothing(&self, count: u32, domain: u8) -> bool
+        ensures some { result ≡ true → 2 ≤ count }
         ensures most { result ≡ true → count ≤ 128 }
-        ensures nothing { (meters : List Reading) (r : RunningWorld) → RunningStands self.now meters r → result ≡ true
-            → lines_after domain count r ≡ [] }
+        ensures lines { (meters : List Reading) (r : RunningWorld) → RunningStands self.now meters r → result ≡ true
+            → lines_after domain count r ≡ shown_after domain count r }
         ensures met { (meters : List Reading) (r : RunningWorld) → RunningStands self.now meters r → result ≡ true
             → met_after domain count r ≡ r.met }
     {
-        self.detail == 0 && count >= 6 && count <= 128 && self.device.goes_on(domain, count)
+        count >= 2 && count <= 128 && self.device.goes_on(domain, count)
+    }
+
+    /// Prints what a domain's output jacks played at each of so many ticks that were done at once last, from detail 1 on.
+    fn show_rows<K: Sink>(&self, count: u32, domain: u8, sink: &mut K) -> Result<(), Failed>
+        requires { count ≤ 128 }
+        ensures printed { (r : RunningWorld) → self.now.detail ≡ r.detail → self.now.device.function ≡ r.device.function
+            → HoldPlayed domain (tones_of domain r.jacks) count r.device self.now.device.rows
+            → Prints (K.written sink.old) (K.written sink.new) result (shown_after domain count r) }
+        ensures cause { HasCause (K.faults sink.old) (K.faults sink.new) result }
+    {
+        if self.detail == 0 {
+            return Ok(());
+        }
+        for tick in 0..count {
+            write_jacks(sink, &self.device, domain, Some(tick))?;
+        }
+        Ok(())
     }
 
     /// So many ticks of a domain at once: its jacks give their next frames, the device ticks, and the meters hear its output jacks. The
@@ -427,7 +449,11 @@ impl Running {
             → RunningStands self.old (readings (λ v x. (⟦<dyn Meter as Meter>⟧ v).reading_of x) meters.old) r
             → met_after domain count r ≡ r.met
             → RunningStands self.new (readings (λ v x. (⟦<dyn Meter as Meter>⟧ v).reading_of x) meters.new) (running_after domain count r) }
+        ensures played { (r : RunningWorld)
+            → RunningStands self.old (readings (λ v x. (⟦<dyn Meter as Meter>⟧ v).reading_of x) meters.old) r
+            → HoldPlayed domain (tones_of domain r.jacks) count r.device self.new.device.rows }
         ensures function { self.new.device.function ≡ self.old.device.function }
+        ensures detail { self.new.detail ≡ self.old.detail }
     {
         fresh_steps_have_room_for_ticks(self.device.function());
         let mut steps = Steps::new();
@@ -541,7 +567,7 @@ impl Running {
         ensures cause { HasCause (K.faults sink.old) (K.faults sink.new) result }
     {
         if self.detail >= 1 {
-            return write_jacks(sink, &self.device, domain);
+            return write_jacks(sink, &self.device, domain, None);
         }
         Ok(())
     }

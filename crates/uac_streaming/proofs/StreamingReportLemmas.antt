@@ -11,6 +11,7 @@ use Rattle.uac_flow.specs.FlowWaits.{sent_more}
 use Rattle.uac_device.specs.DeviceKept as devices
 use Rattle.uac_device.specs.DeviceWorld.{DeviceWorld, at_in, feedback_in, is_due_in}
 use Rattle.uac_device.specs.DeviceWaits.{SentAreThere, after_sent, frames_later_in}
+use Rattle.uac_script.specs.Phrase.{PhraseMark}
 use Rattle.uac_streaming.specs.Telling.{Telling, in_turn, without_event}
 use Rattle.uac_streaming.specs.StreamingWorld.{StreamingWorld, all_feedback, feedback_lines, feedback_made, feedback_turn, given_at, loses_feedback, numbers, stream_index}
 use Rattle.uac_streaming.specs.StreamingWaits.{after_report_of, after_reports_of, sent_after, sent_on, with_device}
@@ -95,34 +96,35 @@ first_dropped ns n sent d w first there drops =
 
 -- ---- reports
 
-module _ (later : DeviceWorld) (interface : ℕ) (w : StreamingWorld) where
+module _ (marks : List PhraseMark) (later : DeviceWorld) (interface : ℕ) (w : StreamingWorld) where
   abbrev turns : Option ℕ → Telling StreamingWorld
   turns o =
       option_map_or
       (λ value. record {
-        lines = feedback_lines 0 (loses_feedback [] interface) value interface;
-        world = feedback_made (loses_feedback [] interface) value interface (with_device later w);
+        lines = feedback_lines 0 (loses_feedback marks interface) value interface;
+        world = feedback_made (loses_feedback marks interface) value interface (with_device later w);
       })
       o (without_event (with_device later w))
 
   -- where none is due, none comes
-  pub none_reported : feedback_in later interface ≡ None → w ≡ after_report_of later interface w
+  pub none_reported : feedback_in later interface ≡ None → w ≡ after_report_of marks later interface w
   unfolding feedback_turn
   none_reported none = ap (λ (o : Option ℕ). with_device w.device (turns o).world) (sym none)
 
-  -- and one that is comes to the host
-  pub one_reported : (value : ℕ) → later.function ≡ w.device.function → feedback_in later interface ≡ Some value
-      → feedback_made false value interface w ≡ after_report_of later interface w
+  -- and one that is comes to the host, or is lost
+  pub one_reported : (value : ℕ) (lost : Bool) → later.function ≡ w.device.function → feedback_in later interface ≡ Some value
+      → lost ≡ loses_feedback marks interface → feedback_made lost value interface w ≡ after_report_of marks later interface w
   unfolding feedback_turn feedback_made
-  one_reported value same due =
-      let made : StreamingWorld = feedback_made false value interface w in
+  one_reported value lost same due is =
+      let made : StreamingWorld = feedback_made lost value interface w in
       ap
-      (λ (f : FunctionFields). record made { history = given_at (stream_index f interface) (λ index. with_report_given index false) w.history })
+      (λ (f : FunctionFields). record made { history = given_at (stream_index f interface) (λ index. with_report_given index lost) w.history })
       (sym same)
+      ∙ ap (λ (b : Bool). with_device w.device (feedback_made b value interface (with_device later w))) is
       ∙ ap (λ (o : Option ℕ). with_device w.device (turns o).world) (sym due)
 
   -- the device stays as it was
-  pub turn_keeps_device : (feedback_turn 0 [] interface (with_device later w)).world.device ≡ later
+  pub turn_keeps_device : (feedback_turn 0 marks interface (with_device later w)).world.device ≡ later
   unfolding feedback_turn feedback_made
   turn_keeps_device = by (feedback_in later interface)
     where
@@ -131,55 +133,56 @@ module _ (later : DeviceWorld) (interface : ℕ) (w : StreamingWorld) where
       by (Some value) = refl
 
 -- the reports of these, one after the other
-unfoldable pub reports_of : DeviceWorld → List ℕ → StreamingWorld → StreamingWorld
-reports_of later [] w = w
-reports_of later (n ∷ ns) w = reports_of later ns (after_report_of later n w)
+unfoldable pub reports_of : List PhraseMark → DeviceWorld → List ℕ → StreamingWorld → StreamingWorld
+reports_of marks later [] w = w
+reports_of marks later (n ∷ ns) w = reports_of marks later ns (after_report_of marks later n w)
 
-reports_in_turn : (later : DeviceWorld) (ns : List ℕ) (w : StreamingWorld)
-    → reports_of later ns w ≡ with_device w.device (in_turn (feedback_turn 0 []) ns (with_device later w)).world
+reports_in_turn : (marks : List PhraseMark) (later : DeviceWorld) (ns : List ℕ) (w : StreamingWorld)
+    → reports_of marks later ns w ≡ with_device w.device (in_turn (feedback_turn 0 marks) ns (with_device later w)).world
 unfolding reports_of in_turn
-reports_in_turn later [] w = refl
-reports_in_turn later (n ∷ ns) w =
-    let reported : StreamingWorld = (feedback_turn 0 [] n (with_device later w)).world in
-    reports_in_turn later ns (after_report_of later n w)
-    ∙ ap (λ (d : DeviceWorld). with_device w.device (in_turn (feedback_turn 0 []) ns (with_device d reported)).world) (sym (turn_keeps_device later n w))
+reports_in_turn marks later [] w = refl
+reports_in_turn marks later (n ∷ ns) w =
+    let reported : StreamingWorld = (feedback_turn 0 marks n (with_device later w)).world in
+    reports_in_turn marks later ns (after_report_of marks later n w)
+    ∙ ap (λ (d : DeviceWorld). with_device w.device (in_turn (feedback_turn 0 marks) ns (with_device d reported)).world)
+    (sym (turn_keeps_device marks later n w))
 
 -- those of all interfaces
-pub all_reported : (later : DeviceWorld) (w : StreamingWorld) (order : List ℕ) → order ≡ numbers w.device.function → later.function ≡ w.device.function
-    → reports_of later order w ≡ after_reports_of later w
+pub all_reported : (marks : List PhraseMark) (later : DeviceWorld) (w : StreamingWorld) (order : List ℕ) → order ≡ numbers w.device.function
+    → later.function ≡ w.device.function → reports_of marks later order w ≡ after_reports_of marks later w
 unfolding after_reports_of all_feedback
-all_reported later w order is same =
-    reports_in_turn later order w
-    ∙ ap (λ (ns : List ℕ). with_device w.device (in_turn (feedback_turn 0 []) ns (with_device later w)).world) (is ∙ ap numbers (sym same))
+all_reported marks later w order is same =
+    reports_in_turn marks later order w
+    ∙ ap (λ (ns : List ℕ). with_device w.device (in_turn (feedback_turn 0 marks) ns (with_device later w)).world) (is ∙ ap numbers (sym same))
 
-reports_split : (later : DeviceWorld) (ns : List ℕ) (i : ℕ) (w : StreamingWorld) → i < length ns
-    → reports_of later (drop i ns) w ≡ reports_of later (drop (i + 1) ns) (after_report_of later (get_or ns i 0) w)
+reports_split : (marks : List PhraseMark) (later : DeviceWorld) (ns : List ℕ) (i : ℕ) (w : StreamingWorld) → i < length ns
+    → reports_of marks later (drop i ns) w ≡ reports_of marks later (drop (i + 1) ns) (after_report_of marks later (get_or ns i 0) w)
 unfolding reports_of
-reports_split later ns i w below = ap (λ (ms : List ℕ). reports_of later ms w) (drop-cons ns i 0 below) ∙ rw add-one refl
+reports_split marks later ns i w below = ap (λ (ms : List ℕ). reports_of marks later ms w) (drop-cons ns i 0 below) ∙ rw add-one refl
 
 -- the first ones came, and those that are left make of the streams as they are now what all make of them
-pub record Reported (later : DeviceWorld) (ns : List ℕ) (i : ℕ) (w : StreamingWorld) (Holds : StreamingWorld → Type 0) : Type 0 where
+pub record Reported (marks : List PhraseMark) (later : DeviceWorld) (ns : List ℕ) (i : ℕ) (w : StreamingWorld) (Holds : StreamingWorld → Type 0) : Type 0 where
   pub now : StreamingWorld
   pub stands : Holds now
   pub device : now.device ≡ w.device
-  pub left : reports_of later (drop i ns) now ≡ reports_of later ns w
+  pub left : reports_of marks later (drop i ns) now ≡ reports_of marks later ns w
 
-pub none_yet : (later : DeviceWorld) (ns : List ℕ) (w : StreamingWorld) (Holds : StreamingWorld → Type 0) → Holds w → Reported later ns 0 w Holds
-none_yet later ns w Holds stands = record { now = w; stands = stands; device = refl; left = refl }
+pub none_yet : (marks : List PhraseMark) (later : DeviceWorld) (ns : List ℕ) (w : StreamingWorld) (Holds : StreamingWorld → Type 0) → Holds w → Reported marks later ns 0 w Holds
+none_yet marks later ns w Holds stands = record { now = w; stands = stands; device = refl; left = refl }
 
-module _ (later : DeviceWorld) (ns : List ℕ) (i n : ℕ) (w : StreamingWorld) (Before After : StreamingWorld → Type 0) where
-  pub report_more : i < length ns → n ≡ get_or ns i 0 → Reported later ns i w Before
-      → ((v : StreamingWorld) → v.device ≡ w.device → Before v → After (after_report_of later n v)) → Reported later ns (i + 1) w After
+module _ (marks : List PhraseMark) (later : DeviceWorld) (ns : List ℕ) (i n : ℕ) (w : StreamingWorld) (Before After : StreamingWorld → Type 0) where
+  pub report_more : i < length ns → n ≡ get_or ns i 0 → Reported marks later ns i w Before
+      → ((v : StreamingWorld) → v.device ≡ w.device → Before v → After (after_report_of marks later n v)) → Reported marks later ns (i + 1) w After
   report_more below is r reports = record {
-    now = after_report_of later n r.now;
+    now = after_report_of marks later n r.now;
     stands = reports r.now r.device r.stands;
     device = r.device;
-    left = ap (λ (k : ℕ). reports_of later (drop (i + 1) ns) (after_report_of later k r.now)) is ∙ sym (reports_split later ns i r.now below) ∙ r.left;
+    left = ap (λ (k : ℕ). reports_of marks later (drop (i + 1) ns) (after_report_of marks later k r.now)) is ∙ sym (reports_split marks later ns i r.now below) ∙ r.left;
   }
 
 -- none is left
-pub reports_done : (later : DeviceWorld) (ns : List ℕ) (i : ℕ) (w : StreamingWorld) (Holds : StreamingWorld → Type 0) → length ns ≤ i
-    → Reported later ns i w Holds → Holds (reports_of later ns w)
+pub reports_done : (marks : List PhraseMark) (later : DeviceWorld) (ns : List ℕ) (i : ℕ) (w : StreamingWorld) (Holds : StreamingWorld → Type 0) → length ns ≤ i
+    → Reported marks later ns i w Holds → Holds (reports_of marks later ns w)
 unfolding reports_of
-reports_done later ns i w Holds past r =
-    subst Holds (ap (λ (ms : List ℕ). reports_of later ms r.now) (sym (drop_all i ns past)) ∙ r.left) r.stands
+reports_done marks later ns i w Holds past r =
+    subst Holds (ap (λ (ms : List ℕ). reports_of marks later ms r.now) (sym (drop_all i ns past)) ∙ r.left) r.stands

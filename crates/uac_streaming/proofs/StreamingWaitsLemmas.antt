@@ -18,10 +18,11 @@ use Rattle.uac_device.specs.DeviceWaits.{AreSteady, HaveSent, TakesAll, frames_l
 use Rattle.uac_device.proofs.DeviceWaitsLemmas.{arrival_settled, due_settled, end_settled, end_steady, receiving_settled, receiving_steady, sending_settled}
 use Rattle.uac_device.proofs.DeviceWaitsTicksLemmas.{end_have_sent, function_settled, receiving_have_sent, sending_have_sent}
 use Rattle.uac_host.specs.HostCalls.{after_host_packet, packet_of, size_of}
+use Rattle.uac_script.specs.Phrase.{PhraseMark}
 use Rattle.uac_transcript.specs.Transcript.{Said}
 use Rattle.uac_streaming.specs.Telling.{Telling, without_event, in_turn, telling_after}
-use Rattle.uac_streaming.specs.StreamingWorld.{StreamingWorld, after_arrival, all_ends, all_feedback, counted_at, end_turn, feedback_lines, feedback_made, feedback_turn, fetched_lines, goes_out, in_packets, inward_turn, is_out_due, numbers, numbers_in, numbers_out, out_lines, out_packets, out_turn, over_lines, packet_fetched, packet_sent_out, sent_out_lines}
-use Rattle.uac_streaming.specs.StreamingWaits.{after_reports_of, fits, sent_after, sent_on, streams_settled, with_device}
+use Rattle.uac_streaming.specs.StreamingWorld.{StreamingWorld, after_arrival, all_ends, all_feedback, counted_at, end_turn, feedback_lines, feedback_made, feedback_turn, fetched_lines, goes_out, in_packet_turn, in_packets, inward_turn, is_in_due, is_out_due, loses_feedback, numbers, numbers_in, numbers_out, out_lines, out_packets, out_turn, over_lines, packet_fetched, packet_sent_out, sent_out_lines}
+use Rattle.uac_streaming.specs.StreamingWaits.{LosesNoPacket, after_reports_of, fits, sent_after, sent_on, streams_settled, with_device}
 use Rattle.uac_streaming.proofs.AmongLemmas.{kept_distinct}
 use Rattle.uac_streaming.proofs.StreamingWorldLemmas.{in_packets_are}
 
@@ -91,47 +92,74 @@ none_counted k met = fun_ext (λ j. by (j == k) (met j))
     by true c = refl
     by false c = refl
 
-report_silent : (k : ℕ) (w : StreamingWorld) → (feedback_turn 0 [] k w).lines ≡ []
-unfolding feedback_turn
-report_silent k w = by (feedback_in w.device k)
-  where
-    by : (o : Option ℕ)
-        → (option_map_or (λ value. record { lines = feedback_lines 0 false value k; world = feedback_made false value k w }) o (without_event w)).lines ≡ []
-    by None = refl
-    by (Some value) = refl
+module _ (marks : List PhraseMark) where
+  -- what is told of a report, where there is one
+  abbrev report_told : ℕ → StreamingWorld → Option ℕ → Telling StreamingWorld
+  report_told k w o =
+      let lost = loses_feedback marks k in
+      option_map_or (λ value. record { lines = feedback_lines 0 lost value k; world = feedback_made lost value k w }) o (without_event w)
 
-report_device : (k : ℕ) (w : StreamingWorld) → (feedback_turn 0 [] k w).world.device ≡ w.device
-unfolding feedback_turn feedback_made
-report_device k w = by (feedback_in w.device k)
-  where
-    by : (o : Option ℕ)
-        → (option_map_or (λ value. record { lines = feedback_lines 0 false value k; world = feedback_made false value k w }) o (without_event w)).world.device
-        ≡ w.device
-    by None = refl
-    by (Some value) = refl
+  report_silent : (k : ℕ) (w : StreamingWorld) → (feedback_turn 0 marks k w).lines ≡ []
+  unfolding feedback_turn
+  report_silent k w = by (feedback_in w.device k)
+    where
+      by : (o : Option ℕ) → (report_told k w o).lines ≡ []
+      by None = refl
+      by (Some value) = refl
 
-feedback_silent : (w : StreamingWorld) → (all_feedback 0 [] w).lines ≡ []
-unfolding all_feedback
-feedback_silent w = each_silent (feedback_turn 0 []) report_silent (numbers w.device.function) w
+  report_device : (k : ℕ) (w : StreamingWorld) → (feedback_turn 0 marks k w).world.device ≡ w.device
+  unfolding feedback_turn feedback_made
+  report_device k w = by (feedback_in w.device k)
+    where
+      by : (o : Option ℕ) → (report_told k w o).world.device ≡ w.device
+      by None = refl
+      by (Some value) = refl
 
-feedback_device : (w : StreamingWorld) → (all_feedback 0 [] w).world.device ≡ w.device
-unfolding all_feedback
-feedback_device w =
-    each_keeps (λ (v : StreamingWorld). v.device ≡ w.device) (feedback_turn 0 []) (λ k v same. report_device k v ∙ same) (numbers w.device.function) w refl
+  feedback_silent : (w : StreamingWorld) → (all_feedback 0 marks w).lines ≡ []
+  unfolding all_feedback
+  feedback_silent w = each_silent (feedback_turn 0 marks) report_silent (numbers w.device.function) w
 
-pub reports_wait : (domain : ℕ) (tones : Tones) (n : ℕ) (sent : ℕ → ℕ) (w : StreamingWorld)
-    → all_feedback 0 [] (streams_settled domain tones n sent w)
-    ≡ without_event (streams_settled domain tones n sent (after_reports_of (settled domain tones n sent w.device) w))
-unfolding after_reports_of
-reports_wait domain tones n sent w =
-    let d : DeviceWorld = settled domain tones n sent w.device in
-    let told : Telling StreamingWorld = all_feedback 0 [] (with_device d w) in
-    ap {B = Telling StreamingWorld} (λ (ls : List Said). record { lines = ls; world = told.world }) (feedback_silent (with_device d w))
-    ∙ ap {B = Telling StreamingWorld} (λ (v : DeviceWorld). record { lines = []; world = with_device v told.world }) (feedback_device (with_device d w))
+  feedback_device : (w : StreamingWorld) → (all_feedback 0 marks w).world.device ≡ w.device
+  unfolding all_feedback
+  feedback_device w =
+      each_keeps (λ (v : StreamingWorld). v.device ≡ w.device) (feedback_turn 0 marks) (λ k v same. report_device k v ∙ same) (numbers w.device.function) w refl
 
-pub reports_device : (d : DeviceWorld) (w : StreamingWorld) → (after_reports_of d w).device ≡ w.device
-unfolding after_reports_of
-reports_device d w = refl
+  pub reports_wait : (domain : ℕ) (tones : Tones) (n : ℕ) (sent : ℕ → ℕ) (w : StreamingWorld)
+      → all_feedback 0 marks (streams_settled domain tones n sent w)
+      ≡ without_event (streams_settled domain tones n sent (after_reports_of marks (settled domain tones n sent w.device) w))
+  unfolding after_reports_of
+  reports_wait domain tones n sent w =
+      let d : DeviceWorld = settled domain tones n sent w.device in
+      let told : Telling StreamingWorld = all_feedback 0 marks (with_device d w) in
+      ap {B = Telling StreamingWorld} (λ (ls : List Said). record { lines = ls; world = told.world }) (feedback_silent (with_device d w))
+      ∙ ap {B = Telling StreamingWorld} (λ (v : DeviceWorld). record { lines = []; world = with_device v told.world }) (feedback_device (with_device d w))
+
+  pub reports_device : (d : DeviceWorld) (w : StreamingWorld) → (after_reports_of marks d w).device ≡ w.device
+  unfolding after_reports_of
+  reports_device d w = refl
+
+-- ---- where no packet is lost, the packets are those of a microframe without losses
+
+module _ (marks : List PhraseMark) (detail : ℕ) (none : LosesNoPacket marks) where
+  out_turn_lossless : out_turn detail marks ≡ out_turn detail []
+  unfolding out_turn
+  out_turn_lossless = fun_ext (λ k. fun_ext (λ w.
+      ap {B = Telling StreamingWorld} (λ (lost : Bool).
+      if is_out_due w k then record { lines = sent_out_lines detail lost k w; world = packet_sent_out lost k w } else without_event w) (none.outs k)))
+
+  pub outs_lossless : out_packets detail marks ≡ out_packets detail []
+  unfolding out_packets
+  outs_lossless = fun_ext (λ w. ap (λ (event : ℕ → StreamingWorld → Telling StreamingWorld). in_turn event (numbers w.device.function) w) out_turn_lossless)
+
+  in_turn_lossless : in_packet_turn detail marks ≡ in_packet_turn detail []
+  unfolding in_packet_turn
+  in_turn_lossless = fun_ext (λ k. fun_ext (λ w.
+      ap {B = Telling StreamingWorld} (λ (lost : Bool).
+      if is_in_due w k then record { lines = fetched_lines detail lost k w; world = packet_fetched lost k w } else without_event w) (none.ins k)))
+
+  pub ins_lossless : in_packets detail marks ≡ in_packets detail []
+  unfolding in_packets
+  ins_lossless = fun_ext (λ w. ap (λ (event : ℕ → StreamingWorld → Telling StreamingWorld). in_turn event (numbers w.device.function) w) in_turn_lossless)
 
 -- ---- packets to the device
 

@@ -1,11 +1,12 @@
 -- Streams of a device whose ticks wait while counts run ahead: what of a microframe's packets and reports is known before the ticks are
 -- done. Profile.
-use Rattle.std.specs.Prelude.{ℕ, ◌+◌, ◌==◌, ◌||◌, not, Bool, if◌then◌else◌, List, [], ◌∷◌}
+use Rattle.std.specs.Prelude.{◌≡◌, ℕ, ◌+◌, ◌==◌, ◌||◌, not, Bool, false, if◌then◌else◌, List, [], ◌∷◌}
 use Rattle.uac_device.specs.DeviceWorld.{DeviceWorld, is_due_in}
 use Rattle.uac_device.specs.DeviceTicks.{Tones}
 use Rattle.uac_device.specs.DeviceWaits.{frames_later_in, settled, takes_in}
 use Rattle.uac_host.specs.HostCalls.{packet_of}
-use Rattle.uac_streaming.specs.StreamingWorld.{StreamingWorld, all_feedback, feedback_turn}
+use Rattle.uac_script.specs.Phrase.{PhraseMark}
+use Rattle.uac_streaming.specs.StreamingWorld.{StreamingWorld, all_feedback, feedback_turn, loses_in, loses_out}
 
 -- with another device
 abbrev pub with_device : DeviceWorld → StreamingWorld → StreamingWorld
@@ -29,10 +30,15 @@ unfoldable pub sent_after : List ℕ → ℕ → ℕ → DeviceWorld → ℕ
 sent_after [] ticks sent w = sent
 sent_after (n ∷ ns) ticks sent w = if is_due_in w n then sent + frames_later_in w n ticks sent else sent
 
--- the report that a device gives on an interface, to streams beside another
-abbrev pub after_report_of : DeviceWorld → ℕ → StreamingWorld → StreamingWorld
-after_report_of device interface w = with_device w.device (feedback_turn 0 [] interface (with_device device w)).world
+-- no packet is lost where these marks tell what is, but perhaps feedback reports are
+pub record LosesNoPacket (marks : List PhraseMark) : Type 0 where
+  pub outs : (interface : ℕ) → loses_out marks interface ≡ false
+  pub ins : (interface : ℕ) → loses_in marks interface ≡ false
 
--- the reports that a device gives, to streams beside another
-unfoldable pub after_reports_of : DeviceWorld → StreamingWorld → StreamingWorld
-after_reports_of device w = with_device w.device (all_feedback 0 [] (with_device device w)).world
+-- the report that a device gives on an interface, to streams beside another, with these losses
+abbrev pub after_report_of : List PhraseMark → DeviceWorld → ℕ → StreamingWorld → StreamingWorld
+after_report_of marks device interface w = with_device w.device (feedback_turn 0 marks interface (with_device device w)).world
+
+-- the reports that a device gives, to streams beside another, with these losses
+unfoldable pub after_reports_of : List PhraseMark → DeviceWorld → StreamingWorld → StreamingWorld
+after_reports_of marks device w = with_device w.device (all_feedback 0 marks (with_device device w)).world

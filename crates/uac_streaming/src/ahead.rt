@@ -1,6 +1,7 @@
 // The packets and reports of a microframe while the device's ticks wait.
-ghost use Rattle.std.specs.Prelude.{◌≡◌, ◌≤◌, ◌<◌, ◌+◌, nat_le, ℕ, length};
+ghost use Rattle.std.specs.Prelude.{◌≡◌, ◌≤◌, ◌<◌, ◌+◌, nat_le, ℕ, length, map};
 ghost use Rattle.std.specs.List.{list_all};
+ghost use Rattle.uac_script.specs.Line.{phrase_mark};
 ghost use Rattle.uac_device.specs.DeviceKept as devices;
 ghost use Rattle.uac_device.specs.DeviceWorld.{DeviceWorld, feedback_in};
 ghost use Rattle.uac_device.specs.DeviceWaits.{after_sent, feedback_later_in};
@@ -12,6 +13,7 @@ ghost use Rattle.uac_device.specs.DeviceWaits.{SentAreThere};
 
 use crate::streaming::Streaming;
 use uac_device::Device;
+use uac_script::{Mark, loses_feedback};
 
 impl Streaming {
     /// Whether at most one interface carries a stream from the device.
@@ -66,29 +68,29 @@ impl Streaming {
         }
     }
 
-    /// The feedback reports of a microframe, of which none is lost, when so many ticks wait: those of the device as it is when they are
-    /// done.
-    pub fn give_feedback_later(&mut self, device: &Device, ticks: u32)
+    /// The feedback reports of a microframe, with these losses, when so many ticks wait: those of the device as it is when they are done.
+    pub fn give_feedback_later(&mut self, device: &Device, ticks: u32, marks: &[Mark])
         ensures { (w : StreamingWorld) (later : DeviceWorld) → StreamingStands self.old device.now w
             → later.function ≡ w.device.function
             → ((interface : ℕ) → feedback_in later interface ≡ feedback_later_in w.device interface ticks)
-            → StreamingStands self.new device.now (after_reports_of later w) }
+            → StreamingStands self.new device.now (after_reports_of (map phrase_mark marks.now) later w) }
     {
         for at in 0..self.order.len() {
             let interface = self.order[at];
-            self.give_report_later(device, interface, ticks);
+            self.give_report_later(device, interface, ticks, marks);
         }
     }
 
     /// The feedback report of an interface, where one is due.
-    fn give_report_later(&mut self, device: &Device, interface: u8, ticks: u32)
+    fn give_report_later(&mut self, device: &Device, interface: u8, ticks: u32, marks: &[Mark])
         ensures stands { (w : StreamingWorld) (later : DeviceWorld) → StreamingStands self.old device.now w
             → later.function ≡ w.device.function → feedback_in later interface ≡ feedback_later_in w.device interface ticks
-            → StreamingStands self.new device.now (spec.after_report_of later interface w) }
+            → StreamingStands self.new device.now (spec.after_report_of (map phrase_mark marks.now) later interface w) }
         ensures order { self.new.order ≡ self.old.order }
     {
         if let Some(value) = device.feedback_later(interface, ticks) {
-            self.bring_feedback(device.function(), interface, value, false);
+            let lost = loses_feedback(marks, interface);
+            self.bring_feedback(device.function(), interface, value, lost);
         }
     }
 }

@@ -12,17 +12,19 @@ use Rattle.uac_transcript.proofs.PrintingLemmas.{front_of_some, some_lines_more}
 use Rattle.uac_device.specs.DeviceWorld.{is_output_jack}
 use Rattle.uac_device.specs.DeviceTurns.{jacks_of}
 use Rattle.uac_device.specs.declared.hearing.OutputJack.{OutputJack}
-use Rattle.uac_running.proofs.ReportLinesLemmas.{jacks_are, jacks_played, of_jack}
+use Rattle.uac_running.proofs.ReportLinesLemmas.{jacks_are, jacks_clocked, jacks_played, of_jack}
 use Rattle.uac_edges.proofs.WritingLemmas.{Writes-handed_on}
 use Rattle.uac_running.proofs.printing.write_jacks.Goals as goal
 
 pub write_jack-requires : goal.write_jack-requires
 write_jack-requires g c =
     let function = c.args.device.now.function in
-    let IsOne : OutputJack → Type 0 = λ j. is_output_jack (entity function.entities j.terminal) ≡ true in
-    let each : All IsOne c.output_jacks-jack-items.result.now =
-    subst (All IsOne) (sym c.output_jacks-jack-items.ensures) (jacks_are function (subst IsSoundFunction c.function.ensures c.functions_are_sound.ensures)) in
-    each c.loop-jack.jack-index _ c.loop-jack-test.true
+    let sound = subst IsSoundFunction c.function.ensures c.functions_are_sound.ensures in
+    let kinds : All (λ (j : OutputJack). is_output_jack (entity function.entities j.terminal) ≡ true) c.output_jacks-jack-items.result.now =
+    subst (All (λ (j : OutputJack). is_output_jack (entity function.entities j.terminal) ≡ true)) (sym c.output_jacks-jack-items.ensures) (jacks_are function sound) in
+    let clocks : All (λ (j : OutputJack). (entity function.entities j.terminal).clock ≡ j.domain) c.output_jacks-jack-items.result.now =
+    subst (All (λ (j : OutputJack). (entity function.entities j.terminal).clock ≡ j.domain)) (sym c.output_jacks-jack-items.ensures) (jacks_clocked function sound) in
+    record { tick = c.requires; kind = kinds c.loop-jack.jack-index _ c.loop-jack-test.true; clock = clocks c.loop-jack.jack-index _ c.loop-jack-test.true }
 
 pub returns-in_err-write_jack-clause-printed : goal.returns-in_err-write_jack-clause-printed
 returns-in_err-write_jack-clause-printed g c = λ w stands.

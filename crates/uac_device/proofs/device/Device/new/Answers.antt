@@ -30,5 +30,5 @@ invariant_of-result c =
 
 pub returns : goal.returns
 returns c =
-    fresh_stands c.args.function c.in_ok-parts.parts.store c.new-2.result c.in_ok-parts.parts.moving.clocks.items c.in_ok-parts.parts.moving.wires c.in_ok-parts.parts.moving.device_streams c.in_ok-parts.ensures.store
+    fresh_stands c.args.function c.in_ok-parts.parts.store c.new-2.result c.in_ok-parts.parts.moving.clocks.items c.in_ok-parts.parts.moving.wires c.in_ok-parts.parts.moving.device_streams c.in_ok-parts.parts.moving.rows c.in_ok-parts.ensures.store
     c.new-2.ensures c.in_ok-parts.ensures.clocks c.in_ok-parts.ensures.silent c.in_ok-parts.ensures.device_streams

@@ -17,8 +17,8 @@ use Rattle.uac_device.specs.DeviceTurns.{frames_heard}
 use Rattle.uac_device.specs.DeviceWorld.{is_input_jack}
 use Rattle.uac_device.specs.contracts.device.Device.{the_view}
 use Rattle.uac_device.proofs.DeviceKeptStreamLemmas.{ports_wired_in, ports_wired_out}
-use Rattle.uac_device.proofs.DeviceKeptTickLemmas.{device_with_wires}
-use Rattle.uac_device.proofs.DeviceRowsLemmas.{RowsTurned, rows_kept, rows_read, rows_stand, tones_few, tones_wired}
+use Rattle.uac_device.proofs.DeviceKeptTickLemmas.{device_with_rows, device_with_wires}
+use Rattle.uac_device.proofs.DeviceRowsLemmas.{RowsTurned, rows_kept, rows_hold, rows_read, rows_stand, tones_few, tones_wired}
 use Rattle.uac_device.proofs.DeviceWorldLemmas.{renders_here}
 use Rattle.uac_device.proofs.HeardRowsLemmas.{jacks_wired}
 use Rattle.uac_device.proofs.HeldRowsLemmas.{rows_are_few}
@@ -72,14 +72,16 @@ pub keep_frames-requires-clause-rows : goal.keep_frames-requires-clause-rows
 keep_frames-requires-clause-rows g c = subst (λ (graph : List Entity). AreRowsOf graph c.ticks_by.new.wires) c.self.invariant.1 c.ticks_by.ensures.fitting
 
 pub invariant_of-self : goal.invariant_of-self
-invariant_of-self g c = (
-  device_with_wires (the_view c.self.inside) c.keep_frames.new.wires c.put_rows.new.self c.self.invariant.0 c.keep_frames.ensures.fitting
-      (c.put_rows.ensures.ports ∙ c.take_rows.ensures.ports),
-  c.self.invariant.1,
-  c.self.invariant.2,
-  subst (λ (graph : List Entity). AreRowsOf graph c.ticks_by.new.wires) c.self.invariant.1 c.ticks_by.ensures.fitting,
-  c.ticks_by.ensures.room ∙ c.take_rows.ensures.room ∙ c.give_tones.ensures.room ∙ c.hold_inputs.ensures.room ∙ c.self.invariant.4,
-)
+invariant_of-self g c =
+    let device : DeviceFields = the_view c.self.inside in (
+      device_with_rows (record device { wires = c.keep_frames.new.wires; device_streams = c.put_rows.new.self }) c.ticks_by.new.wires
+          (device_with_wires device c.keep_frames.new.wires c.put_rows.new.self c.self.invariant.0 c.keep_frames.ensures.fitting
+          (c.put_rows.ensures.ports ∙ c.take_rows.ensures.ports)),
+      c.self.invariant.1,
+      c.self.invariant.2,
+      subst (λ (graph : List Entity). AreRowsOf graph c.ticks_by.new.wires) c.self.invariant.1 c.ticks_by.ensures.fitting,
+      c.ticks_by.ensures.room ∙ c.take_rows.ensures.room ∙ c.give_tones.ensures.room ∙ c.hold_inputs.ensures.room ∙ c.self.invariant.4,
+    )
 
 pub returns-clause-stands : goal.returns-clause-stands
 returns-clause-stands g c w stands =
@@ -114,6 +116,42 @@ returns-clause-stands g c w stands =
       others = c.keep_frames.ensures.others;
     } in
     rows_stand device c.args.jacks.now w c.args.domain c.hold_inputs.new.rows c.give_tones.new.rows mid new c.keep_frames.new.wires c.take_rows.new.self c.put_rows.new.self
+    (c.interfaces_are_numbered.ensures c.self.inside.function sound) (linked c.self.inside.function sound) (c.entities_have_channels.ensures c.self.inside.function sound)
+    c.self.invariant.0 here kinds c.args.ticks (c.args.ticks - 1) (omega (arith, c.requires.some)) turned
+
+pub returns-clause-played : goal.returns-clause-played
+returns-clause-played g c w stands =
+    let sound = c.functions_are_sound.ensures in
+    let device : DeviceFields = the_view c.self.inside in
+    let here = subst (λ (device : DeviceFields). DeviceStands device w) (sym c.self.view_is) stands in
+    let kinds = subst (λ (device : DeviceFields). All (λ j. is_input_jack (entity device.function.entities j.terminal) ≡ true) c.args.jacks.now) (sym c.self.view_is) c.requires.kinds in
+    let mid = c.take_rows.new.rows in
+    let new = c.ticks_by.new.wires in
+    let turned : RowsTurned device c.args.jacks.now c.args.domain c.args.ticks (c.args.ticks - 1) c.hold_inputs.new.rows c.give_tones.new.rows mid new c.keep_frames.new.wires
+    c.take_rows.new.self c.put_rows.new.self =
+    record {
+      held = c.hold_inputs.ensures.held;
+      toned = c.give_tones.ensures.frames;
+      frames = c.take_rows.ensures.frames;
+      taken = c.take_rows.ensures.stands;
+      same = c.take_rows.ensures.ports;
+      rendered = record {
+        sound = sound_graph c.self.inside.function sound;
+        ends = output_terminals c.self.inside.function sound c.args.domain;
+        rendered =
+            subst
+            (λ (graph : List Entity). (t : ℕ) → t < c.args.ticks
+            → AreRendered graph (controls_in c.self.inside.store) (samples_on (frames_at t mid)) (depends_on graph c.args.domain) (frames_at t mid) (frames_at t new))
+            c.self.invariant.1
+            (c.ticks_by.ensures.rendered (controls_in c.self.inside.store)
+            (subst (λ (graph : List Entity). AreJobs graph (controls_in c.self.inside.store) c.self.inside.derived.jobs) (sym c.self.invariant.1) c.self.invariant.2.asked));
+      };
+      put = c.put_rows.ensures.stands;
+      inputs = c.keep_frames.ensures.inputs;
+      ends = c.keep_frames.ensures.ends;
+      others = c.keep_frames.ensures.others;
+    } in
+    rows_hold device c.args.jacks.now w c.args.domain c.hold_inputs.new.rows c.give_tones.new.rows mid new c.keep_frames.new.wires c.take_rows.new.self c.put_rows.new.self
     (c.interfaces_are_numbered.ensures c.self.inside.function sound) (linked c.self.inside.function sound) (c.entities_have_channels.ensures c.self.inside.function sound)
     c.self.invariant.0 here kinds c.args.ticks (c.args.ticks - 1) (omega (arith, c.requires.some)) turned
 

@@ -1,28 +1,12 @@
-use Rattle.std.proofs.Common.{◌∙◌, ap, sym, subst, refl}
-use Rattle.uac_running.specs.RunningKept.{RunningFields, RunningStands}
-use Rattle.uac_running.specs.TickCounts.{more_counted}
-use Rattle.uac_device.proofs.ListChangeLemmas.{turned_back}
-use Rattle.uac_running.proofs.RunningKeptLemmas.{clocks_of, clocks-more, domains_kept}
-use Rattle.uac_running.proofs.RunningKeptJackLemmas.{jacks_kept}
-use Rattle.uac_running.proofs.EventsLemmas.{advanced_on, view_still}
-use Rattle.uac_running.specs.contracts.running.Running.{the_view}
+use Rattle.std.proofs.Common.{◌∙◌, zero-add}
+use Rattle.uac_device.specs.DeviceSums.{after_advances, ticks_over}
+use Rattle.uac_device.specs.DeviceWorld.{next_ticks}
 use Rattle.uac_running.proofs.running.Running.advance.Goals as goal
 
-pub invariant_of-self : goal.invariant_of-self
-invariant_of-self c =
-    let more = more_counted c.args.domain c.ticks-ticks.result in
-    let counts = turned_back more c.self.inside.counts.len c.self.inside.counts.items c.deref_mut.result.now c.count_ticks.new.counts
-    c.count_ticks.ensures c.deref_mut.ensures.value c.deref_mut.ensures.len in (
-      jacks_kept (the_view c.self.inside) _ c.ticks-ticks.ensures.function refl c.self.invariant.0,
-      domains_kept (the_view c.self.inside) _ c.ticks-ticks.ensures.function (ap clocks_of counts ∙ clocks-more c.args.domain c.ticks-ticks.result c.self.inside.counts.items) c.self.invariant.1,
-      view_still c.self.inside.device.function _ c.self.inside.view c.ticks-ticks.ensures.function c.self.invariant.2,
-    )
-
 pub returns-clause-stands : goal.returns-clause-stands
-returns-clause-stands c meters r stands =
-    let more = more_counted c.args.domain c.ticks-ticks.result in
-    let counts = turned_back more c.self.inside.counts.len c.self.inside.counts.items c.deref_mut.result.now c.count_ticks.new.counts
-    c.count_ticks.ensures c.deref_mut.ensures.value c.deref_mut.ensures.len in
-    let own = subst (λ (p : RunningFields). RunningStands p meters r) (sym c.self.view_is) stands in
-    advanced_on meters r (the_view c.self.inside) _ own c.args.domain c.ticks-ticks.result (c.ticks-ticks.ensures.stands r.device own.streaming.device)
-    (c.ticks-ticks.ensures.ticks r.device own.streaming.device) c.self.invariant.1.once refl counts refl refl refl refl (record { view = refl; configuration = refl; breaks = refl })
+unfolding after_advances
+returns-clause-stands c meters r stands = c.advance_over.ensures.stands meters r stands
+
+pub returns-clause-ticks : goal.returns-clause-ticks
+unfolding after_advances ticks_over
+returns-clause-ticks c meters r stands = c.advance_over.ensures.ticks meters r stands ∙ zero-add (next_ticks c.args.domain r.device)

@@ -1,11 +1,8 @@
-use Rattle.std.proofs.Common.{◌∙◌, ap, map, subst, sym, List, []}
-use Rattle.std.specs.Io.KnownBytes.{Appends}
+use Rattle.std.proofs.Common.{◌∙◌, ap, map, subst, sym, List}
 use Rattle.uac_topology.specs.FunctionKept.{AreNumbered}
 use Rattle.uac_script.specs.Line.{phrase_mark}
-use Rattle.uac_script.specs.Phrase.{PhraseMark}
 use Rattle.uac_units.specs.MeterReadings.{readings}
-use Rattle.uac_edges.specs.Writing.{AppendsFront}
-use Rattle.uac_transcript.specs.Printing.{Prints, text_of}
+use Rattle.uac_transcript.specs.Printing.{Prints}
 use Rattle.uac_transcript.specs.Transcript.{Said}
 use Rattle.uac_streaming.proofs.RoomDeviceLemmas.{HaveSmallNumbers}
 use Rattle.uac_running.specs.Events.{microframe}
@@ -16,6 +13,7 @@ use Rattle.uac_running.proofs.running.Running.ahead_microframe.Goals as goal
 
 pub returns-then-goes_ahead-clause-tells : goal.returns-then-goes_ahead-clause-tells
 returns-then-goes_ahead-clause-tells g c r ahead =
+    let marks = map phrase_mark c.args.marks.now in
     let shown = readings (λ v x. (goal.Meter-dyn g (v, x)).reading_of x) c.args.meters.now in
     let b = ahead.before in
     let domain = c.args.domain in
@@ -29,12 +27,13 @@ returns-then-goes_ahead-clause-tells g c r ahead =
     let kept : AreNumbered c.function.result.now = c.interfaces_are_numbered.ensures c.function.result.now c.functions_are_sound.ensures in
     let own = c.function.ensures ∙ ap (λ (p : RunningFields). p.device.function) c.self.view_is ∙ function_ahead domain n sent c.args.self.now shown r ahead in
     let small = subst HaveSmallNumbers own kept.bytes in
-    let room = one_microframe [] r small ahead.room in
+    let room = one_microframe marks r small ahead.room in
     let told = c.run_ahead.ensures.tells shown b ahead.stands ahead.lone may.steady may.fit in (
       subst (λ (lines : List Said). Prints (g.K.Sink.written c.args.sink.now) (g.K.Sink.written c.run_ahead.new.sink) c.run_ahead.result lines)
-          (sym (ahead_lines domain n sent c.args.self.now shown r ahead may)) told.0,
+          (sym (ahead_lines marks domain n sent c.args.self.now shown r c.requires.packets ahead may)) told.0,
       three_ok _ _ _ _ c.run_ahead.result
-          (λ next stands ticks more. ahead_more domain n sent next.ticks next.sent c.args.self.now c.run_ahead.new.self shown r ahead may room ticks more stands)
+          (λ next stands ticks more.
+          ahead_more marks domain n sent next.ticks next.sent c.args.self.now c.run_ahead.new.self shown r c.requires.packets ahead may room ticks more stands)
           told.1 (c.run_ahead.ensures.ticks shown b ahead.stands ahead.lone) (c.run_ahead.ensures.sent shown b ahead.stands ahead.lone),
     )
 
@@ -44,26 +43,22 @@ returns-in_err-microframe-clause-tells g c r ahead =
     let new = g.K.Sink.written c.microframe.new.sink in
     let done : RunningStandsBetween c.catch_up.new.self (readings (λ v x. (goal.Meter-dyn g (v, x)).reading_of x) c.catch_up.new.meters) r =
     record { now = c.catch_up.ensures r ahead; room = ahead.room } in
-    stopped_ahead _ _ old new c.from_residual.result (microframe [] r).lines c.from_residual.ensures.1
-    (subst (λ (marks : List PhraseMark). AppendsFront old new (text_of (microframe marks r).lines)) (ap (map phrase_mark) c.requires.lossless)
-    (c.in_err-microframe.ensures.tells r done).0)
+    stopped_ahead _ _ old new c.from_residual.result (microframe (map phrase_mark c.args.marks.now) r).lines c.from_residual.ensures.1
+    (c.in_err-microframe.ensures.tells r done).0
 
 pub returns-clause-tells : goal.returns-clause-tells
 returns-clause-tells g c r ahead =
     let shown = readings (λ v x. (goal.Meter-dyn g (v, x)).reading_of x) c.args.meters.now in
     let showing = readings (λ v x. (goal.Meter-dyn g (v, x)).reading_of x) c.microframe.new.meters in
-    let old = g.K.Sink.written c.args.sink.now in
-    let new = g.K.Sink.written c.microframe.new.sink in
+    let marks = map phrase_mark c.args.marks.now in
     let domain = c.args.domain in
     let kept : AreNumbered c.function.result.now = c.interfaces_are_numbered.ensures c.function.result.now c.functions_are_sound.ensures in
     let own = c.function.ensures ∙ ap (λ (p : RunningFields). p.device.function) c.self.view_is ∙ function_ahead domain c.args.ahead.ticks c.args.ahead.sent c.args.self.now shown r ahead in
     let small = subst HaveSmallNumbers own kept.bytes in
     let done : RunningStandsBetween c.catch_up.new.self (readings (λ v x. (goal.Meter-dyn g (v, x)).reading_of x) c.catch_up.new.meters) r =
     record { now = c.catch_up.ensures r ahead; room = ahead.room } in
-    let told = subst
-    (λ (marks : List PhraseMark). Appends old new (text_of (microframe marks r).lines) × RunningStandsBetween c.microframe.new.self showing (microframe marks r).world)
-    (ap (map phrase_mark) c.requires.lossless) (c.in_ok-microframe.ensures.tells r done) in (
+    let told = c.in_ok-microframe.ensures.tells r done in (
       told.0,
-      none_ahead domain c.microframe.new.self showing (microframe [] r).world told.1
-          (microframe_lone domain r small ahead.room (lone_ahead domain c.args.ahead.ticks c.args.ahead.sent c.args.self.now shown r ahead)),
+      none_ahead domain c.microframe.new.self showing (microframe marks r).world told.1
+          (microframe_lone marks domain r small ahead.room (lone_ahead domain c.args.ahead.ticks c.args.ahead.sent c.args.self.now shown r ahead)),
     )

@@ -1,4 +1,5 @@
-use Rattle.std.proofs.Common.{ap, arith, ◌+◌, ◌-◌, ◌∙◌, refl, []}
+use Rattle.std.proofs.Common.{ap, arith, ◌+◌, ◌-◌, ◌∙◌, refl, map}
+use Rattle.uac_script.specs.Line.{phrase_mark}
 use Rattle.uac_units.specs.MeterReadings.{readings}
 use Rattle.uac_running.specs.Ahead.{IsAhead}
 use Rattle.uac_running.specs.Events.{microframe, microframes}
@@ -11,9 +12,10 @@ use Rattle.uac_running.proofs.running.Running.ahead_microframes.Goals as goal
 pub loop-passed-init : goal.loop-passed-init
 loop-passed-init g c = record {
   told = λ r stands lone.
+      let marks = map phrase_mark c.args.marks.now in
       let shown = readings (λ v x. (goal.Meter-dyn g (v, x)).reading_of x) c.args.meters.now in
-      begun (IsAhead c.args.domain 0 0) (microframes [] c.args.count r) (microframes [] (c.args.count - 0)) c.args.self.now shown (g.K.Sink.written c.args.sink.now) r
-      (none_ahead c.args.domain c.args.self.now shown r stands lone) (ap (λ n. microframes [] n r) (omega arith));
+      begun (IsAhead c.args.domain 0 0) (microframes marks c.args.count r) (microframes marks (c.args.count - 0)) c.args.self.now shown (g.K.Sink.written c.args.sink.now) r
+      (none_ahead c.args.domain c.args.self.now shown r stands lone) (ap (λ n. microframes marks n r) (omega arith));
   ticks = omega arith;
   sent = omega arith;
   faultless = refl;
@@ -21,21 +23,23 @@ loop-passed-init g c = record {
 
 pub returns-in_err-ahead-clause-tells : goal.returns-in_err-ahead-clause-tells
 returns-in_err-ahead-clause-tells g c r stands lone =
+    let marks = map phrase_mark c.args.marks.now in
     Tells-handed_on _ _ (g.K.Sink.written c.args.sink.now) (g.K.Sink.written c.ahead_microframe.new.sink) c.from_residual.result _ c.from_residual.ensures.1 (
-    stopped (IsAhead c.args.domain c.loop-passed.ahead.ticks c.loop-passed.ahead.sent) (microframes [] c.args.count r) (microframes [] (c.args.count - c.loop-passed._passed)) (microframes [] (c.args.count - (c.loop-passed._passed + 1)))
-    (microframe []) c.loop-passed.self (readings (λ v x. (goal.Meter-dyn g (v, x)).reading_of x) c.loop-passed.meters)
+    stopped (IsAhead c.args.domain c.loop-passed.ahead.ticks c.loop-passed.ahead.sent) (microframes marks c.args.count r) (microframes marks (c.args.count - c.loop-passed._passed)) (microframes marks (c.args.count - (c.loop-passed._passed + 1)))
+    (microframe marks) c.loop-passed.self (readings (λ v x. (goal.Meter-dyn g (v, x)).reading_of x) c.loop-passed.meters)
     (g.K.Sink.written c.args.sink.now) (g.K.Sink.written c.loop-passed.sink) (g.K.Sink.written c.ahead_microframe.new.sink)
-    (λ w. microframes_split [] c.args.count c.loop-passed._passed w c.loop-passed-test.true) (c.loop-passed.invariant.told r stands lone) c.in_err-ahead.ensures.tells
+    (λ w. microframes_split marks c.args.count c.loop-passed._passed w c.loop-passed-test.true) (c.loop-passed.invariant.told r stands lone) c.in_err-ahead.ensures.tells
     )
 
 pub loop-passed-preserved : goal.loop-passed-preserved
 loop-passed-preserved g c = record {
   told = λ r stands lone.
+      let marks = map phrase_mark c.args.marks.now in
       one_more_to (IsAhead c.args.domain c.loop-passed.ahead.ticks c.loop-passed.ahead.sent) (IsAhead c.args.domain c.in_ok-ahead.ahead.ticks c.in_ok-ahead.ahead.sent)
-      (microframes [] c.args.count r) (microframes [] (c.args.count - c.loop-passed._passed)) (microframes [] (c.args.count - (c.loop-passed._passed + 1)))
-      (microframe []) c.loop-passed.self c.ahead_microframe.new.self (readings (λ v x. (goal.Meter-dyn g (v, x)).reading_of x) c.loop-passed.meters) (readings (λ v x. (goal.Meter-dyn g (v, x)).reading_of x) c.ahead_microframe.new.meters)
+      (microframes marks c.args.count r) (microframes marks (c.args.count - c.loop-passed._passed)) (microframes marks (c.args.count - (c.loop-passed._passed + 1)))
+      (microframe marks) c.loop-passed.self c.ahead_microframe.new.self (readings (λ v x. (goal.Meter-dyn g (v, x)).reading_of x) c.loop-passed.meters) (readings (λ v x. (goal.Meter-dyn g (v, x)).reading_of x) c.ahead_microframe.new.meters)
       (g.K.Sink.written c.args.sink.now) (g.K.Sink.written c.loop-passed.sink) (g.K.Sink.written c.ahead_microframe.new.sink)
-      (λ w. microframes_split [] c.args.count c.loop-passed._passed w c.loop-passed-test.true) (c.loop-passed.invariant.told r stands lone) c.in_ok-ahead.ensures.tells;
+      (λ w. microframes_split marks c.args.count c.loop-passed._passed w c.loop-passed-test.true) (c.loop-passed.invariant.told r stands lone) c.in_ok-ahead.ensures.tells;
   ticks = c.in_ok-ahead.ensures.ticks;
   sent = c.in_ok-ahead.ensures.sent;
   faultless = c.in_ok-ahead.ensures.cause.faultless ∙ c.loop-passed.invariant.faultless;
@@ -43,8 +47,9 @@ loop-passed-preserved g c = record {
 
 pub returns-clause-tells : goal.returns-clause-tells
 returns-clause-tells g c r stands lone =
-    let whole = microframes [] c.args.count r in
-    let told = finished (IsAhead c.args.domain c.loop-passed.ahead.ticks c.loop-passed.ahead.sent) whole (microframes [] (c.args.count - c.loop-passed._passed)) c.loop-passed.self
+    let marks = map phrase_mark c.args.marks.now in
+    let whole = microframes marks c.args.count r in
+    let told = finished (IsAhead c.args.domain c.loop-passed.ahead.ticks c.loop-passed.ahead.sent) whole (microframes marks (c.args.count - c.loop-passed._passed)) c.loop-passed.self
     (readings (λ v x. (goal.Meter-dyn g (v, x)).reading_of x) c.loop-passed.meters) (g.K.Sink.written c.args.sink.now) (g.K.Sink.written c.loop-passed.sink)
-    (c.loop-passed.invariant.told r stands lone) (λ w. microframes_end [] c.args.count c.loop-passed._passed w c.loop-passed-test.false) in
+    (c.loop-passed.invariant.told r stands lone) (λ w. microframes_end marks c.args.count c.loop-passed._passed w c.loop-passed-test.false) in
     (told.0, record { now = c.catch_up.ensures whole.world told.1; room = told.1.room })

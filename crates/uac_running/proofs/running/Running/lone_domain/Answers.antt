@@ -16,3 +16,6 @@ returns-in-len1-clause-lone c = λ meters r stands.
           ∙ only_one c.domains.result.now c.in-len1.len_at_least c.in-len1.len_below;
       one = leb-true _ _ (sym (c.has_one_in.ensures c.self.inside.device (streaming_of r) own.streaming) ∙ c.if-not-has_one_in.false);
     }
+
+pub returns-in-len1-clause-packets : goal.returns-in-len1-clause-packets
+returns-in-len1-clause-packets c = c.loses_no_packet.ensures c.if-not-loses_no_packet.false

@@ -1,13 +1,10 @@
-use Rattle.std.proofs.Common.{ap, map, subst, sym, List}
+use Rattle.std.proofs.Common.{map, subst, sym, List}
 use Rattle.std.specs.Io.KnownBytes.{Appends}
 use Rattle.uac_running.proofs.TellingLemmas.{Appends-nothing}
 use Rattle.uac_script.specs.Line.{phrase_mark}
-use Rattle.uac_script.specs.Phrase.{PhraseMark}
 use Rattle.uac_transcript.specs.Printing.{text_of}
 use Rattle.uac_transcript.specs.Transcript.{Said}
 use Rattle.uac_units.specs.MeterReadings.{readings}
-use Rattle.uac_running.specs.Events.{microframes}
-use Rattle.uac_running.specs.RunningKept.{RunningTellsBetween}
 use Rattle.uac_running.proofs.QuietLemmas.{quiet_lines}
 use Rattle.uac_running.proofs.running.Running.microframes.Goals as goal
 
@@ -21,12 +18,7 @@ returns-in-Some-clause-tells g c r stands =
       c.quiet_microframes.ensures marks r stands quiet,
     )
 
--- no packet is lost in such microframes
 pub returns-in-Some-lone_domain-clause-tells : goal.returns-in-Some-lone_domain-clause-tells
 returns-in-Some-lone_domain-clause-tells g c r stands =
     let shown = readings (λ v x. (goal.Meter-dyn g (v, x)).reading_of x) c.args.meters.now in
-    let showing = readings (λ v x. (goal.Meter-dyn g (v, x)).reading_of x) c.ahead_microframes.new.meters in
-    let known = c.in-Some-lone_domain.ensures in
-    subst
-    (λ (marks : List PhraseMark). RunningTellsBetween (microframes marks c.args.count r) c.ahead_microframes.new.self showing (g.K.Sink.written c.args.sink.now) (g.K.Sink.written c.ahead_microframes.new.sink) c.ahead_microframes.result)
-    (sym (ap (map phrase_mark) known.lossless)) (c.ahead_microframes.ensures.tells r stands (known.lone shown r stands.now))
+    c.ahead_microframes.ensures.tells r stands (c.in-Some-lone_domain.ensures.lone shown r stands.now)

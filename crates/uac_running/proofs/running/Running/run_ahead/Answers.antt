@@ -23,7 +23,7 @@ returns-in_err-out_packets-clause-tells g c meters r stands lone steady fit =
     let later = passed meters r c.args.self.now c.pass.new.self stands c.pass.ensures in
     stopped_ahead _ _ old new c.from_residual.result [] c.from_residual.ensures.1
     (subst (λ (told : Telling RunningWorld). AppendsFront old new (text_of told.lines))
-    (outs_told (map phrase_mark c.args.marks.now) c.args.domain (c.args.ahead.ticks + 27) (numbered r) (ap (map phrase_mark) c.requires.lossless) lone.detail steady fit)
+    (outs_told (map phrase_mark c.args.marks.now) c.args.domain (c.args.ahead.ticks + 27) (numbered r) c.requires.packets lone.detail steady fit)
     (c.in_err-out_packets.ensures.tells meters (numbered r) later).0)
 
 pub returns-in_err-end_microframe-clause-tells : goal.returns-in_err-end_microframe-clause-tells
@@ -35,7 +35,7 @@ returns-in_err-end_microframe-clause-tells g c meters r stands lone steady fit =
     let later = passed meters r c.args.self.now c.pass.new.self stands c.pass.ensures in
     let sent = with_streaming b (outs_sent b) in
     let first = subst (λ (told : Telling RunningWorld). Appends old mid (text_of told.lines) × RunningStands c.out_packets.new.self meters told.world)
-    (outs_told (map phrase_mark c.args.marks.now) c.args.domain (c.args.ahead.ticks + 27) b (ap (map phrase_mark) c.requires.lossless) lone.detail steady fit)
+    (outs_told (map phrase_mark c.args.marks.now) c.args.domain (c.args.ahead.ticks + 27) b c.requires.packets lone.detail steady fit)
     (c.in_ok-out_packets.ensures.tells meters b later) in
     let few : next_ticks c.args.domain (outs_sent b).device ≤ 27 = omega (arith, c.advance.ensures.few, c.advance.ensures.ticks meters sent first.1) in
     let clock = with_streaming b (clocked c.args.domain b) in
@@ -54,7 +54,7 @@ returns-clause-tells g c meters r stands lone steady fit =
     let later = passed meters r c.args.self.now c.pass.new.self stands c.pass.ensures in
     let sent = with_streaming b (outs_sent b) in
     let first = subst (λ (told : Telling RunningWorld). Appends old mid (text_of told.lines) × RunningStands c.out_packets.new.self meters told.world)
-    (outs_told (map phrase_mark c.args.marks.now) c.args.domain (c.args.ahead.ticks + 27) b (ap (map phrase_mark) c.requires.lossless) lone.detail steady fit)
+    (outs_told (map phrase_mark c.args.marks.now) c.args.domain (c.args.ahead.ticks + 27) b c.requires.packets lone.detail steady fit)
     (c.in_ok-out_packets.ensures.tells meters b later) in
     let is = c.advance.ensures.ticks meters sent first.1 in
     let few : next_ticks c.args.domain (outs_sent b).device ≤ 27 = omega (arith, c.advance.ensures.few, is) in
@@ -76,7 +76,7 @@ pub returns-clause-ticks : goal.returns-clause-ticks
 returns-clause-ticks g c meters r stands lone =
     let b = numbered r in
     let later = passed meters r c.args.self.now c.pass.new.self stands c.pass.ensures in
-    let sent = subst (RunningStands c.out_packets.new.self meters) (outs_world (map phrase_mark c.args.marks.now) b (ap (map phrase_mark) c.requires.lossless) lone.detail)
+    let sent = subst (RunningStands c.out_packets.new.self meters) (outs_world (map phrase_mark c.args.marks.now) b c.requires.packets lone.detail)
     (c.in_ok-out_packets.ensures.tells meters b later).1 in
     ap (λ n. c.args.ahead.ticks + n) (c.advance.ensures.ticks meters (with_streaming b (outs_sent b)) sent)
 
@@ -84,7 +84,7 @@ pub returns-clause-sent : goal.returns-clause-sent
 returns-clause-sent g c meters r stands lone =
     let b = numbered r in
     let later = passed meters r c.args.self.now c.pass.new.self stands c.pass.ensures in
-    let sent = subst (RunningStands c.out_packets.new.self meters) (outs_world (map phrase_mark c.args.marks.now) b (ap (map phrase_mark) c.requires.lossless) lone.detail)
+    let sent = subst (RunningStands c.out_packets.new.self meters) (outs_world (map phrase_mark c.args.marks.now) b c.requires.packets lone.detail)
     (c.in_ok-out_packets.ensures.tells meters b later).1 in
     let own = subst (λ (p : RunningFields). RunningStands p meters (with_streaming b (outs_sent b))) (sym c.self.view_is) sent in
     c.sent_after-sent.ensures.sent (outs_sent b) own.streaming

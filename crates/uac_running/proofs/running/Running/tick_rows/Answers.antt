@@ -1,9 +1,11 @@
-use Rattle.std.proofs.Common.{◌≡◌, ◌∙◌, ℕ, ◌+◌, ◌*◌, ◌^◌, ◌<◌, ap, arith, length, sym, subst, refl, zero-add}
+use Rattle.std.proofs.Common.{◌≡◌, ◌∙◌, ℕ, ◌+◌, ◌*◌, ◌^◌, ◌<◌, ap, arith, length, sym, subst, refl, zero-add, List}
 use Rattle.uac_topology.specs.Function.{FunctionFields}
 use Rattle.uac_graph.specs.Needs.{needed_units}
 use Rattle.uac_units.specs.MeterReadings.{readings}
 use Rattle.uac_device.specs.DeviceWorld.{renders_of}
-use Rattle.uac_device.specs.Jacks.{jack_after}
+use Rattle.uac_device.specs.declared.jacks.Jack.{Jack}
+use Rattle.uac_device.specs.DeviceTicks.{HoldPlayed}
+use Rattle.uac_device.specs.Jacks.{jack_after, tones_of}
 use Rattle.uac_device.proofs.ListChangeLemmas.{turned_back}
 use Rattle.uac_running.specs.EventTicks.{jacks_after}
 use Rattle.uac_running.specs.RunningKept.{RunningFields, RunningStands}
@@ -49,3 +51,10 @@ returns-clause-stands g c r stands unmet =
     ∙ zero-add (c.args.count * renders_of c.args.domain w))
     c.tick_rows.ensures.heard refl (jacks ∙ ap (jacks_after c.args.domain c.args.count) (sym c.deref.ensures.value)) refl refl refl
     c.saturating_add-self-inside.ensures (record { view = refl; configuration = refl; breaks = refl })
+
+pub returns-clause-played : goal.returns-clause-played
+returns-clause-played g c r stands =
+    let shown = readings (λ v x. (goal.Meter-dyn g (v, x)).reading_of x) c.args.meters.now in
+    let own = subst (λ (p : RunningFields). RunningStands p shown r) (sym c.self.view_is) stands in
+    subst (λ (jacks : List Jack). HoldPlayed c.args.domain (tones_of c.args.domain jacks) c.args.count r.device c.tick_rows.new.self.rows)
+    (c.deref.ensures.value ∙ own.jacks) (c.tick_rows.ensures.played r.device own.streaming.device)

@@ -1,14 +1,13 @@
-use Rattle.std.proofs.Common.{◌≡◌, arith, sym, subst}
+use Rattle.std.proofs.Common.{sym, subst}
 use Rattle.uac_device.specs.Jacks.{tones_of}
 use Rattle.uac_running.specs.RunningKept.{RunningFields, RunningStands}
-use Rattle.uac_running.proofs.EventRowsLemmas.{lines_nothing, met_nothing}
-use Rattle.uac_running.proofs.running.Running.says_nothing.Goals as goal
+use Rattle.uac_running.proofs.EventRowsLemmas.{lines_shown, met_nothing}
+use Rattle.uac_running.proofs.running.Running.meets_nothing.Goals as goal
 
-pub returns-then-count-le128-clause-nothing : goal.returns-then-count-le128-clause-nothing
-returns-then-count-le128-clause-nothing c = λ meters r stands yes.
+pub returns-then-count-le128-clause-lines : goal.returns-then-count-le128-clause-lines
+returns-then-count-le128-clause-lines c = λ meters r stands yes.
     let own = subst (λ (p : RunningFields). RunningStands p meters r) (sym c.self.view_is) stands in
-    let quiet : r.detail ≡ 0 = omega (arith, own.detail, c.if-count-le128.true) in
-    lines_nothing c.args.domain c.args.count r (λ t less. c.goes_on.ensures.meets r.device own.streaming.device yes (tones_of c.args.domain r.jacks) t less) quiet
+    lines_shown c.args.domain c.args.count r (λ t less. c.goes_on.ensures.meets r.device own.streaming.device yes (tones_of c.args.domain r.jacks) t less)
 
 pub returns-then-count-le128-clause-met : goal.returns-then-count-le128-clause-met
 returns-then-count-le128-clause-met c = λ meters r stands yes.
