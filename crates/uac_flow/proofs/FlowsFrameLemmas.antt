@@ -1,11 +1,11 @@
 -- The frames of a ring as frames come and go.
-use Rattle.std.proofs.Common.{◌≡◌, ◌∙◌, sym, refl, ap, subst, arith, ℕ, zero, suc, ◌+◌, ◌-◌, ◌*◌, ◌<◌, ◌≤◌, ℤ, List, [], ◌∷◌, ◌++◌, length, take, drop, slice_get, Some, Result, Ok, Err, IsErr, OnOk, ◌↔◌, OnErr, replicate, add-one, append_assoc, length-append}
-use Rattle.std.proofs.lemmas.List.{drop-append-le, length-drop, length-replicate, replicate-append-replicate}
-use Rattle.std.proofs.lemmas.List.Elements.{All-push}
+use Rattle.std.proofs.Common.{◌≡◌, ◌∙◌, sym, refl, ap, arith, ℕ, zero, suc, ◌+◌, ◌-◌, ◌*◌, ◌<◌, ◌≤◌, ℤ, List, [], ◌∷◌, ◌++◌, length, take, drop, slice_get, Some, Result, Ok, Err, IsErr, OnOk, ◌↔◌, pos, replicate, add-one, append_assoc, length-append}
+use Rattle.std.proofs.lemmas.List.{drop-append-le, length-drop, take-replicate}
 use Rattle.std.proofs.lemmas.Option.{get_or_from_slice_get, slice_get_within}
 use Rattle.uac_pcm.specs.Frames.{bytes_of_frame}
 use Rattle.uac_pcm.specs.Packets.{bytes_of_frames}
 use Rattle.uac_pcm.proofs.PacketsLemmas.{drop-drop, one_written}
+use Rattle.uac_pcm.proofs.ZerosLemmas.{bytes_of_frames-silent}
 use Rattle.uac_ring.specs.Rings.{Holds, ring_frames}
 use Rattle.uac_flow.specs.Flows.{AreFrames}
 
@@ -55,27 +55,6 @@ put_next r before ring after left others frames frame first fits so_far full put
     ∙ ap (λ (fs : List (List ℤ)). ring ++ fs) (sym first)
     ∙ so_far
 
--- and one more frame of zeros
-pub zero_further : {T E : Type 0} (r : Result T E) (n count : ℕ) (before ring after : List (List ℤ)) (frame silence : List ℤ)
-    → (length before + count ≤ ring_frames → ring ≡ before ++ replicate n silence) → n < count → frame ≡ silence → IsErr r ↔ (length ring ≡ ring_frames)
-    → OnOk r (after ≡ ring ++ frame ∷ []) → length before + count ≤ ring_frames → after ≡ before ++ replicate (n + 1) silence
-zero_further r n count before ring after frame silence so_far inside is_zero full put fits =
-    let now : ring ≡ before ++ replicate n silence = so_far fits in
-    let level : length ring ≡ length before + length (replicate n silence) = ap length now ∙ length-append before (replicate n silence) in
-    let room : length ring < ring_frames = omega (arith, length-replicate n silence) in
-    put_there r (after ≡ ring ++ frame ∷ []) (length ring) full room put
-    ∙ ap (λ (r : List (List ℤ)). r ++ frame ∷ []) now
-    ∙ append_assoc before (replicate n silence) (frame ∷ [])
-    ∙ ap (λ (f : List ℤ). before ++ (replicate n silence ++ f ∷ [])) is_zero
-    ∙ ap (λ (r : List (List ℤ)). before ++ r) (replicate-append-replicate n 1 silence)
-
--- each frame still has a sample for each channel
-pub frames_put : {T E : Type 0} (r : Result T E) (channels : ℕ) (ring after : List (List ℤ)) (frame : List ℤ) → length frame ≡ channels
-    → OnOk r (after ≡ ring ++ frame ∷ []) → OnErr r (after ≡ ring) → AreFrames channels ring → AreFrames channels after
-frames_put (Ok u) channels ring after frame whole put kept frames =
-    subst (λ (r : List (List ℤ)). AreFrames channels r) (sym put) (All-push (λ (f : List ℤ). length f ≡ channels) ring frame frames whole)
-frames_put (Err e) channels ring after frame whole put kept frames = subst (λ (r : List (List ℤ)). AreFrames channels r) (sym kept) frames
-
 -- the frames whose bytes a packet has, and one more
 pub packed_further : (channels size bits start n : ℕ) (frames : List (List ℤ)) (frame : List ℤ) (old new rest : List ℕ) → AreFrames channels frames
     → start ≡ n * (channels * size) → start ≤ length old → Some frame ≡ slice_get frames n → take start old ≡ bytes_of_frames size bits (take n frames)
@@ -87,3 +66,11 @@ packed_further channels size bits start n frames frame old new rest whole is_sta
     ap length (sym (get_or_from_slice_get frames n frame frame there)) ∙ whole n frame (slice_get_within frames n frame there) in
     one_written channels size bits start n (take n frames) (take (n + 1) frames) frame old new rest wide is_start inside (one_more n frames frame there)
     so_far written
+
+-- the bytes of a silent ring's oldest frames
+pub silent_packed : (channels size bits count : ℕ) (ring : List (List ℤ)) → ring ≡ replicate (length ring) (replicate channels (pos 0))
+    → count ≤ length ring → bytes_of_frames size bits (take count ring) ≡ replicate (count * (channels * size)) 0
+silent_packed channels size bits count ring silent there =
+    ap (λ (r : List (List ℤ)). bytes_of_frames size bits (take count r)) silent
+    ∙ ap (bytes_of_frames size bits) (take-replicate count (length ring) (replicate channels (pos 0)) there)
+    ∙ bytes_of_frames-silent channels size bits count

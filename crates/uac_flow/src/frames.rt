@@ -5,7 +5,7 @@ ghost use Rattle.uac_ring.specs.Rings.{ring_frames};
 ghost use Rattle.uac_flow.specs.Flows.{AreFrames};
 
 use arrayvec::ArrayVec;
-use uac_pcm::{Format, Frame, Packet, are_zeros, resize, silence};
+use uac_pcm::{Format, Frame, Packet, are_zeros, fill_zeros, resize};
 use uac_ring::Ring;
 
 /// Puts the frames of a packet into a ring that has room for them.
@@ -40,11 +40,7 @@ pub(crate) fn put_zeros(ring: &mut Ring, channels: u8, count: u32)
     ensures put { length ring.old + count ≤ ring_frames → ring.new ≡ ring.old ++ replicate count (replicate channels (pos 0)) }
     ensures frames { AreFrames channels ring.old → AreFrames channels ring.new }
 {
-    let mut zero: Frame = ArrayVec::new();
-    silence(&mut zero, channels);
-    for _each in 0..count {
-        let _ = ring.put(&zero);
-    }
+    ring.put_silent(channels, count);
 }
 
 /// Moves the oldest frames of a ring, so many, into a packet, in place of what is there.
@@ -55,6 +51,21 @@ pub(crate) fn take_frames(ring: &mut Ring, format: &Format, count: u32, packet: 
     ensures packet { packet.new.items ≡ bytes_of_frames format.now.subslot format.now.bits (take count ring.old) }
     ensures ring { ring.new ≡ drop count ring.old }
 {
+    if ring.is_silent() {
+        fill_zeros(packet, count as usize * format.frame_bytes());
+    } else {
+        pack_frames(ring, format, count, packet);
+    }
+    ring.drop_oldest(count);
+}
+
+// Writes the oldest frames of a ring, so many, into a packet, in place of what is there.
+fn pack_frames(ring: &Ring, format: &Format, count: u32, packet: &mut Packet)
+    requires there { count ≤ length ring.now }
+    requires frames { AreFrames format.now.channels ring.now }
+    requires fits { count * (format.now.channels * format.now.subslot) ≤ 3072 }
+    ensures { packet.new.items ≡ bytes_of_frames format.now.subslot format.now.bits (take count ring.now) }
+{
     let size = format.frame_bytes();
     resize(packet, count as usize * size);
     for number in 0..count {
@@ -62,5 +73,4 @@ pub(crate) fn take_frames(ring: &mut Ring, format: &Format, count: u32, packet: 
             format.write_at(frame, packet, number as usize * size);
         }
     }
-    ring.drop_oldest(count);
 }

@@ -16,7 +16,7 @@ use arrayvec::ArrayVec;
 use uac_alt::Stream;
 use uac_pcm::{Frame, Packet};
 use uac_ring::{RING_FRAMES, Ring};
-use uac_units::{Row, read_frame};
+use uac_units::{Row, are_silent, read_frame};
 
 /// What the device keeps of a stream from it, beside its ring.
 #[derive(Clone, Copy, Debug, PartialEq, Eq)]
@@ -85,7 +85,10 @@ impl InFlow {
             → InStands ring.new self.now (in_after_ticks (λ tick. frame_at tick rows.now) ticks i) }
         ensures sound { IsInFlow ring.new self.now }
     {
-        if rows.len() == 1 {
+        if are_silent(rows, ticks as usize) {
+            let room = RING_FRAMES - ring.level();
+            ring.put_silent(self.stream.format.channels, ticks.min(room));
+        } else if rows.len() == 1 {
             self.put_only(ring, ticks, &rows[0]);
         } else {
             self.put_each(ring, ticks, rows);

@@ -21,7 +21,7 @@ use uac_pcm::laws::unpacked_frames_are_whole;
 use uac_pcm::{Frame, Packet};
 use uac_rate::report;
 use uac_ring::{Arrival, RING_FRAMES, Ring};
-use uac_units::Row;
+use uac_units::{Row, hush_rows};
 
 /// What the device keeps of a stream to it, beside its ring.
 #[derive(Clone, Copy, Debug, PartialEq, Eq)]
@@ -152,10 +152,26 @@ impl OutFlow {
         ensures sound { IsOutFlow ring.new self.new }
         ensures stream { self.new.stream ≡ self.old.stream }
     {
+        if ring.is_silent() {
+            hush_rows(rows, ticks as usize);
+        } else {
+            self.lay_rows(ring, ticks, rows);
+        }
+        self.go_on_by(ring, ticks);
+    }
+
+    // Puts the frames of so many ticks into rows, and silence behind them where the ring has fewer.
+    fn lay_rows(&self, ring: &Ring, ticks: u32, rows: &mut [Row])
+        requires sound { IsOutFlow ring.now self.now }
+        requires channels { length rows.old ≡ self.now.stream.format.channels }
+        requires inside { HaveTicks ticks rows.old }
+        ensures frames { (o : OutStream) → OutStands ring.now self.now o → (tick : ℕ) → tick < ticks
+            → frame_at tick rows.new ≡ given_at tick o }
+        ensures lengths { row_lengths rows.new ≡ row_lengths rows.old }
+    {
         let taken = self.ready(ring).min(ticks);
         lay_frames(ring, taken, rows);
         lay_silence(taken, ticks, rows);
-        self.go_on_by(ring, ticks);
     }
 
     // How many frames the stream can give at the next ticks: none while it is priming.

@@ -1,65 +1,40 @@
--- The oldest frame of a ring is the first that came and is not gone.
-use Rattle.std.proofs.Common.{◌≡◌, ℕ, zero, suc, ◌+◌, ◌<◌, ◌≤◌, ℤ, List, [], ◌∷◌, ◌++◌, length, drop, map, set, slice_get, Option, Some, None, OnSome, option_copied, Bor, arith, ap, ◌∙◌, sym, refl}
-use Rattle.std.specs.Option.{option_map}
-use Rattle.std.proofs.lemmas.List.{get_or_at, length-append, length-drop, map-set, set_at}
-use Rattle.std.proofs.lemmas.Option.{same_Some, slice_get-get_or, slice_get-map, slice_get_past}
+-- The oldest frame of a ring is the first that came and is not gone; the silent frames of a ring come last.
+use Rattle.std.proofs.Common.{◌≡◌, ◌∙◌, ℕ, zero, suc, ◌+◌, ◌-◌, ◌<◌, ◌≤◌, ℤ, List, ◌∷◌, [], ◌++◌, length, drop, map, replicate, slice_get, arith, ap, sym, refl, append_assoc}
+use Rattle.std.proofs.lemmas.List.{drop-append-le, drop-map, length-map, places, replicate-append-replicate, same_lists}
+use Rattle.uac_pcm.proofs.PacketsLemmas.{drop-drop}
 use Rattle.uac_ring.specs.Rings.{Holds}
 
--- the element at a place, where the list from there on is known
-pub element_at : {X : Type 0} (xs : List X) (n : ℕ) (y : X) (ys : List X) → drop n xs ≡ y ∷ ys
-    → (slice_get xs n ≡ Some y) × (drop (suc n) xs ≡ ys) × (suc n ≤ length xs)
-element_at [] zero y ys e = cc
-element_at [] (suc n) y ys e = cc
-element_at (x ∷ xs) zero y ys e =
-    let first : x ≡ y = cc in
-    let others : xs ≡ ys = cc in
-    (ap (λ z. Some z) first, others, omega arith)
-element_at (x ∷ xs) (suc n) y ys e =
-    let further = element_at xs n y ys e in
-    let room : suc n ≤ length xs = further.2 in
-    (further.0, further.1, omega arith)
+-- the oldest frame
+pub oldest_came : (came ring : List (List ℤ)) (gone : ℕ) → Holds came gone ring → slice_get ring 0 ≡ slice_get came gone
+oldest_came came ring gone held = ap (λ (r : List (List ℤ)). slice_get r 0) held.1 ∙ oldest_left came gone
+  where
+    oldest_left : (came : List (List ℤ)) (gone : ℕ) → slice_get (drop gone came) 0 ≡ slice_get came gone
+    oldest_left [] zero = refl
+    oldest_left [] (suc gone) = refl
+    oldest_left (frame ∷ came) zero = refl
+    oldest_left (frame ∷ came) (suc gone) = oldest_left came gone
 
--- a ring whose oldest frame is taken
-pub taken : {X : Type 0} (v : X → List ℤ) (items left : List X) (oldest : Option X) (ring came : List (List ℤ)) (gone : ℕ) → map v items ≡ ring
-    → oldest ≡ slice_get items 0 → left ≡ drop 1 items → Holds came gone ring
-    → (option_map v oldest ≡ slice_get came gone) × OnSome oldest (Holds came (gone + 1) (map v left))
-taken v [] left None ring came gone seen is_oldest others held =
-    let empty : drop gone came ≡ [] = sym held.1 ∙ sym seen in
-    let short : length came ≤ gone = let all = sym (length-drop gone came) ∙ ap length empty in omega arith in
-    (sym (slice_get_past came gone short), tt)
-taken v [] left (Some x) ring came gone seen is_oldest others held = cc
-taken v (y ∷ ys) left None ring came gone seen is_oldest others held = cc
-taken {X = X} v (y ∷ ys) left (Some x) ring came gone seen is_oldest others held =
-    let same : x ≡ y = cc in
-    let there = element_at came gone (v y) (map v ys) (sym held.1 ∙ sym seen) in
-    let room : suc gone ≤ length came = there.2 in
-    let step : gone + 1 ≡ suc gone = omega arith in
-    let others_held : map v left ≡ drop (gone + 1) came =
-    ap (λ (xs : List X). map v xs) others ∙ sym there.1 ∙ ap (λ (n : ℕ). drop n came) (sym step) in
-    (ap (λ z. Some (v z)) same ∙ sym there.0, (omega arith, others_held))
+-- and a ring without it
+pub one_gone : (came ring left : List (List ℤ)) (gone : ℕ) → left ≡ drop 1 ring → Holds came gone ring → gone < length came → Holds came (gone + 1) left
+one_gone came ring left gone others held some =
+    (omega (arith, some), others ∙ ap (λ (r : List (List ℤ)). drop 1 r) held.1 ∙ drop-drop gone 1 came)
 
--- what a lent value shows is what it shows as a value
-pub lent : {X : Type 0} (v : X → List ℤ) (oldest : Option (Bor X)) → option_map (λ x. v x.now) oldest ≡ option_map v (option_copied oldest)
-lent v None = refl
-lent v (Some x) = refl
+-- of frames and silent ones after them, the oldest go: fewer than lie there, or these and some of the silent ones
+pub laid_gone : {X : Type 0} (v : X → List ℤ) (items : List X) (count silent : ℕ) (silence : List ℤ) → count ≤ length items
+    → map v (drop count items) ++ replicate silent silence ≡ drop count (map v items ++ replicate silent silence)
+laid_gone v items count silent silence few =
+    ap (λ (fs : List (List ℤ)). fs ++ replicate silent silence) (sym (drop-map v count items))
+    ∙ sym (drop-append-le count (map v items) (replicate silent silence) (omega (arith, few, length-map items v)))
 
--- the newest frame
-pub newest_seen : {X : Type 0} (v : X → List ℤ) (items : List X) (older : List (List ℤ)) (frame : List ℤ) (newest : X) (place : ℕ)
-    → map v items ≡ older ++ frame ∷ [] → place ≡ length older → slice_get items place ≡ Some newest → v newest ≡ frame
-newest_seen v items older frame newest place seen is_last there =
-    let inside : place < length (older ++ frame ∷ []) = omega (arith, length-append older (frame ∷ [])) in
-    same_Some (v newest) frame (
-    sym (ap (option_map v) there)
-    ∙ sym (slice_get-map v items place)
-    ∙ ap (λ (fs : List (List ℤ)). slice_get fs place) seen
-    ∙ slice_get-get_or (older ++ frame ∷ []) place frame inside
-    ∙ ap (λ (f : List ℤ). Some f) (get_or_at older frame [] frame place (sym is_last))
-    )
+pub silent_gone : (laid : List (List ℤ)) (count silent : ℕ) (silence : List ℤ) → length laid ≤ count
+    → replicate (silent - (count - length laid)) silence ≡ drop count (laid ++ replicate silent silence)
+silent_gone laid count silent silence most = same_lists _ _ (grind (arith, places)) (λ k d h. grind (arith, places))
 
--- and another in its place
-pub newest_turned : {X : Type 0} (v : X → List ℤ) (items : List X) (older : List (List ℤ)) (frame : List ℤ) (turned : X) (place : ℕ)
-    → map v items ≡ older ++ frame ∷ [] → place ≡ length older → map v (set items place turned) ≡ older ++ v turned ∷ []
-newest_turned v items older frame turned place seen is_last =
-    map-set v items place turned
-    ∙ ap (λ (fs : List (List ℤ)). set fs place (v turned)) seen
-    ∙ set_at older frame [] (v turned) place (sym is_last)
+-- more of them come
+pub silent_more : (laid ring : List (List ℤ)) (count more : ℕ) (silence zeros : List ℤ) → laid ++ replicate count silence ≡ ring → silence ≡ zeros
+    → laid ++ replicate (count + more) silence ≡ ring ++ replicate more zeros
+silent_more laid ring count more silence zeros seen same =
+    ap (λ (fs : List (List ℤ)). laid ++ fs) (sym (replicate-append-replicate count more silence))
+    ∙ sym (append_assoc laid (replicate count silence) (replicate more silence))
+    ∙ ap (λ (r : List (List ℤ)). r ++ replicate more silence) seen
+    ∙ ap (λ (z : List ℤ). ring ++ replicate more z) same

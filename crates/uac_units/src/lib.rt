@@ -26,6 +26,7 @@ pub use meter::{Meter, MeterKind};
 pub use meter_list::Meters;
 pub use meters::{ClippedMeter, PeakMeter, SumMeter};
 pub use plain::{PlainEffect, PlainFeature, PlainMixer, PlainSelector};
+pub use plain_rows::are_silent;
 pub use rack::Rack;
 pub use row::Row;
 pub use row_frames::{copy_rows, hold_frame, hush_rows, read_frame, silent_rows, write_frame};

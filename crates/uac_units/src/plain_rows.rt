@@ -73,8 +73,8 @@ fn scale_rows(job: &Job, ticks: usize, inputs: &[Row], out: &mut [Row])
     }
 }
 
-// Whether the samples of so many ticks are known to be 0 in all of these rows.
-fn are_silent(rows: &[Row], ticks: usize) -> bool
+/// Whether the samples of so many ticks are known to be 0 in all of these rows.
+pub fn are_silent(rows: &[Row], ticks: usize) -> bool
     ensures { result ≡ true → (channel : ℕ) → HasSamples ticks (λ tick. pos 0) (get_or rows.now channel []) }
 {
     for row in rows {

@@ -1,5 +1,4 @@
-use Rattle.std.proofs.Common.{◌≡◌, ◌∙◌, sym, ap, add-one, ℕ}
-use Rattle.uac_flow.specs.FlowStreams.{OutStream}
+use Rattle.std.proofs.Common.{◌∙◌, sym, ap, add-one, ℕ}
 use Rattle.uac_flow.specs.FlowTicks.{out_after_ticks}
 use Rattle.uac_flow.proofs.FlowTicksLemmas.{out_none, out_more, out_next, out_dry}
 use Rattle.uac_flow.proofs.laws.streams_to_the_device_go_by_level.Goals as goal

@@ -1,4 +1,4 @@
-use Rattle.std.proofs.Common.{◌≡◌, ◌+◌, ◌∙◌, refl, sym, ap, subst, arith, get_or, [], List, ℤ}
+use Rattle.std.proofs.Common.{◌+◌, ◌∙◌, refl, sym, subst, arith, get_or, [], List, ℤ}
 use Rattle.std.proofs.lemmas.Option.{same_Some, slice_get-get_or}
 use Rattle.uac_flow.proofs.FlowTicksRowLemmas.{FramesAreLaid, laid_more, next_inside}
 use Rattle.uac_flow.proofs.rows.lay_frames.Goals as goal

@@ -1,8 +1,11 @@
-use Rattle.std.proofs.Common.{ap}
-use Rattle.uac_ring.proofs.RingsLemmas.{taken}
+use Rattle.std.proofs.Common.{◌≡◌, ◌∙◌, ap, sym, ℤ, List, Some, slice_get}
+use Rattle.std.proofs.lemmas.Option.{slice_get_within}
+use Rattle.uac_ring.proofs.RingsLemmas.{oldest_came, one_gone}
 use Rattle.uac_ring.proofs.ring.Ring.take.Goals as goal
 
 pub returns-clause-holds : goal.returns-clause-holds
 returns-clause-holds c = λ came gone held.
-    taken (λ frame. frame.items) c.self.inside.frames.items c.pop_front.new.self.items c.pop_front.result c.args.self.now came gone c.self.view_is c.pop_front.ensures.value
-    (ap (λ b. b.items) c.pop_front.ensures.items) held
+    let first : Some c.copy_of-oldest.result.items ≡ slice_get c.args.self.now 0 =
+    ap (λ (f : List ℤ). Some f) c.copy_of-oldest.ensures ∙ c.in_ok-at.ensures.frame in
+    let oldest : Some c.copy_of-oldest.result.items ≡ slice_get came gone = first ∙ oldest_came came c.args.self.now gone held in
+    (oldest, one_gone came c.args.self.now c.drop_oldest.new.self gone c.drop_oldest.ensures held (slice_get_within came gone c.copy_of-oldest.result.items (sym oldest)))

@@ -1,8 +1,8 @@
-use Rattle.std.proofs.Common.{◌≡◌, ◌∙◌, sym, ap, length, min, ℕ}
+use Rattle.std.proofs.Common.{◌∙◌, ap, length, min, ℕ}
 use Rattle.uac_alt.specs.AltStreams.{StreamFields}
 use Rattle.uac_units.proofs.SampleRowsLemmas.{ticks_kept}
 use Rattle.uac_flow.proofs.FlowTicksRowLemmas.{rows_given}
-use Rattle.uac_flow.proofs.outward.OutFlow.take_rows.Goals as goal
+use Rattle.uac_flow.proofs.outward.OutFlow.lay_rows.Goals as goal
 
 pub lay_silence-requires-clause-inside : goal.lay_silence-requires-clause-inside
 lay_silence-requires-clause-inside c = ticks_kept c.args.ticks c.args.rows.now c.lay_frames.new.rows c.lay_frames.ensures.lengths c.requires.inside
