@@ -1,7 +1,8 @@
 -- What the parts of a host are seen as.
-use Rattle.std.specs.Prelude.{ℕ, ℤ, ◌*◌, ◌<◌, ◌≤◌, List}
+use Rattle.std.specs.Prelude.{◌≡◌, ℕ, ℤ, ◌*◌, ◌<◌, ◌≤◌, List, []}
 use Rattle.uac_clock.specs.Nominal.{IsNominal}
 use Rattle.uac_pcm.specs.declared.tones.Tone.{Tone}
+use Rattle.uac_pcm.specs.declared.tones.Tone.TheVariants as tones
 use Rattle.uac_alt.specs.AltStreams.{StreamFields}
 
 -- a running stream: what the pace is past its last whole frame, in 65,536ths of one, and the rate value in force
@@ -15,6 +16,11 @@ pub record TrackFields : Type 0 where
   pub samples : List ℤ
   pub tone : Tone
   pub place : ℕ
+
+-- all its next frames are silent: none waits, and the tone is silence
+pub record GivesSilence (t : TrackFields) : Type 0 where
+  pub samples : t.samples ≡ []
+  pub tone : t.tone ≡ tones.Silent
 
 -- what every stream has that a setting runs: a rate's nominal values, and service intervals whose packets aren't too long
 pub record IsRunnable (stream : StreamFields) : Type 0 where

@@ -1,10 +1,12 @@
 // The host and its calls.
 ghost use Rattle.std.specs.Prelude.{◌≡◌, ◌==◌, ◌↔◌, ◌<◌, ℕ, length, position, slice_get, Some, IfOk, IfSome, IsTrue, OnOk, OnErr};
 ghost use Rattle.std.specs.Bool.{OnTrue, OnFalse};
+ghost use Rattle.std.specs.List.{All};
 ghost use Rattle.std.specs.Option.{option_map};
 ghost use Rattle.uac_topology.specs.Function.{FunctionFields};
 ghost use Rattle.uac_topology.specs.Topology.{IsSoundFunction};
 ghost use Rattle.uac_alt.specs.AltStreams.{stream_fields};
+ghost use Rattle.uac_host.specs.HostFields.{GivesSilence};
 ghost use Rattle.uac_host.specs.HostWorld.{HostWorld, fresh_host};
 ghost use Rattle.uac_host.specs.HostCalls.{AreWhole, IsStreamOf, after_host_packet, heard_in, packet_of, size_of};
 ghost use Rattle.uac_host.specs.HostCalls.{with_report, with_samples, with_stream, with_track_tone};
@@ -133,6 +135,15 @@ impl Host {
             Some(index) => self.host_streams[index].hear(packet, at, frame),
             None => false,
         }
+    }
+
+    /// Whether it gives silence on every interface: no frames wait, and each track's tone is silent.
+    pub fn is_silent(&self) -> bool
+        ensures { IsTrue result ↔ All (λ l. GivesSilence l.track) self.now }
+    {
+        self.host_streams
+            .iter()
+            .all(|host_stream| host_stream.track.is_silent())
     }
 
     // The index of an interface's host stream.

@@ -5,6 +5,7 @@ ghost use Rattle.arrayvec.specs.ArrayVec.{array_vec_len};
 ghost use Rattle.uac_pcm.specs.Packets.{bytes_of_frames};
 ghost use Rattle.uac_pcm.specs.declared.tones.Tone.TheVariants as tones;
 ghost use Rattle.std.specs.VecDeque.{deque_capacity};
+ghost use Rattle.uac_host.specs.HostFields.{GivesSilence};
 ghost use Rattle.uac_host.specs.HostWorld as world;
 ghost use Rattle.uac_host.specs.HostCalls.{track_after_frames, next_frames};
 ghost use Rattle.uac_host.specs.HostKept.{kept_track};
@@ -93,9 +94,9 @@ impl Track {
         }
     }
 
-    // Whether all the next frames are silent: none waits, and the tone is silence.
-    fn is_silent(&self) -> bool
-        ensures { IsTrue result ↔ ((self.now.samples ≡ []) × (self.now.tone ≡ tones.Silent)) }
+    /// Whether all the next frames are silent: none waits, and the tone is silence.
+    pub(crate) fn is_silent(&self) -> bool
+        ensures { IsTrue result ↔ GivesSilence self.now }
     {
         self.samples.is_empty() && matches!(self.tone, Tone::Silent)
     }

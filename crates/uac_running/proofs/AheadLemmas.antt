@@ -1,13 +1,12 @@
 -- Microframes of a running device whose ticks wait while counts run ahead: each part of a microframe, before the ticks that wait or
 -- behind them.
-use Rattle.std.proofs.Common.{◌≡◌, ◌∙◌, sym, ap, arith, subst, refl, add-zero, ℕ, zero, suc, ◌+◌, ◌<◌, ◌≤◌, ◌==◌, Bool, true, false, if◌then◌else◌, List, [], ◌∷◌, length, Option, Result, IsErrAnd, Ok, Err}
+use Rattle.std.proofs.Common.{◌≡◌, ◌∙◌, sym, ap, arith, subst, refl, add-zero, ℕ, zero, suc, ◌+◌, ◌<◌, ◌≤◌, true, List, [], ◌∷◌, length, replicate, Option, Result, IsErrAnd, Ok, Err}
 use Rattle.std.specs.Prelude.{IfOk}
 use Rattle.uac_edges.specs.Writing.{AppendsFront}
 use Rattle.uac_script.specs.Phrase.{PhraseMark}
 use Rattle.uac_transcript.specs.Printing.{Prints, text_of}
 use Rattle.uac_transcript.proofs.PrintingLemmas.{Tells-handed_on}
-use Rattle.std.proofs.Math.Path.{fun_ext}
-use Rattle.std.proofs.lemmas.List.{append-nil}
+use Rattle.std.proofs.lemmas.List.{append-nil, get_or-replicate, length-replicate}
 use Rattle.std.specs.List.{All, list_all}
 use Rattle.uac_units.specs.Hearing.{Reading, at_most_u64}
 use Rattle.uac_topology.specs.Function.{FunctionFields}
@@ -24,7 +23,7 @@ use Rattle.uac_transcript.specs.Transcript.{Said}
 use Rattle.uac_streaming.specs.Telling.{Telling, telling_after, without_event}
 use Rattle.uac_streaming.specs.StreamingWorld.{StreamingWorld, all_ends, all_feedback, in_packets, numbers_in, numbers_out, out_packets}
 use Rattle.uac_streaming.specs.StreamingWaits.{LosesNoPacket, after_reports_of, fits, sent_after, sent_on, streams_settled, with_device}
-use Rattle.uac_streaming.proofs.StreamingWaitsLemmas.{ends_have_sent, ends_keep, ends_silent, ends_steady, ends_wait, ins_have_sent, ins_lossless, ins_wait, outs_have_sent, outs_keep, outs_lossless, outs_silent, outs_steady, outs_wait, reports_device, reports_wait}
+use Rattle.uac_streaming.proofs.StreamingWaitsLemmas.{ends_have_sent, ends_keep, ends_silent, ends_steady, ends_wait, ins_have_sent, ins_lossless, ins_wait, none_sent_on, outs_have_sent, outs_keep, outs_lossless, outs_silent, outs_steady, outs_wait, reports_device, reports_wait, sent_length}
 use Rattle.uac_running.specs.RunningWorld.{RunningWorld, streaming_of, with_streaming}
 use Rattle.uac_running.specs.Events.{all_domains, domain_microframe, domain_microframes, ends_and_feedback, followed_by, jacks_after_frame, microframe, number_said, of_streams, packets_and_ticks, tick, tick_times}
 use Rattle.uac_running.specs.EventTicks.{jacks_after, met_after, renders_after, running_after}
@@ -59,7 +58,7 @@ abbrev PlaySame : ℕ → ℕ → RunningWorld → StreamingWorld → Type 0
 PlaySame domain n r w = (u : ℕ) → u < n → played_in domain (tones_of domain r.jacks) w.device u ≡ played_in domain (tones_of domain r.jacks) r.device u
 
 -- what becomes of the streams behind the ticks, becomes of them before
-streams_behind : (domain n sent : ℕ) (r : RunningWorld) (w : StreamingWorld) → w.device.function ≡ r.device.function → PlaySame domain n r w
+streams_behind : (domain n : ℕ) (sent : List ℕ) (r : RunningWorld) (w : StreamingWorld) → w.device.function ≡ r.device.function → PlaySame domain n r w
     → with_streaming (behind domain n sent r) (streams_settled domain (tones_of domain r.jacks) n (sent_of sent r) w) ≡ behind domain n sent (with_streaming r w)
 streams_behind domain n sent r w function same =
     ap (λ (ns : List ℕ). record (with_streaming r w) {
@@ -82,7 +81,7 @@ streams_behind domain n sent r w function same =
     }) (sym (renders_like domain n r (with_streaming r w) refl (rendered_alike domain w.device r.device function)))
 
 -- an event of the streams that may as well come before the ticks
-event_behind : (event : StreamingWorld → Telling StreamingWorld) (domain n sent : ℕ) (r : RunningWorld) (w : StreamingWorld)
+event_behind : (event : StreamingWorld → Telling StreamingWorld) (domain n : ℕ) (sent : List ℕ) (r : RunningWorld) (w : StreamingWorld)
     → event (streams_settled domain (tones_of domain r.jacks) n (sent_of sent r) (streaming_of r)) ≡ without_event (streams_settled domain (tones_of domain r.jacks) n (sent_of sent r) w)
     → w.device.function ≡ r.device.function → PlaySame domain n r w
     → of_streams event (behind domain n sent r) ≡ without_event (behind domain n sent (with_streaming r w))
@@ -121,7 +120,7 @@ outs_function : (r : RunningWorld) → (outs_sent r).device.function ≡ r.devic
 unfolding after_receiving
 outs_function r = outs_keep (λ (v : DeviceWorld). v.function) (λ interface packet v. refl) (streaming_of r)
 
-outs_behind : (domain n sent : ℕ) (r : RunningWorld) → AreSteady domain n r.device → list_all (fits (streaming_of r)) (numbers_out r.device.function) ≡ true
+outs_behind : (domain n : ℕ) (sent : List ℕ) (r : RunningWorld) → AreSteady domain n r.device → list_all (fits (streaming_of r)) (numbers_out r.device.function) ≡ true
     → of_streams (out_packets 0 []) (behind domain n sent r) ≡ without_event (behind domain n sent (with_streaming r (outs_sent r)))
 outs_behind domain n sent r steady fit =
     event_behind (out_packets 0 []) domain n sent r (outs_sent r) (outs_wait domain (tones_of domain r.jacks) n (sent_of sent r) (streaming_of r) steady fit)
@@ -129,11 +128,11 @@ outs_behind domain n sent r steady fit =
 
 -- ---- packets from the device
 
-ins_behind : (domain n sent : ℕ) (r : RunningWorld) → AreSteady domain n r.device → length (numbers_in r.device.function) ≤ 1
+ins_behind : (domain n : ℕ) (sent : List ℕ) (r : RunningWorld) → AreSteady domain n r.device → length (numbers_in r.device.function) ≤ length sent
     → of_streams (in_packets 0 []) (behind domain n sent r) ≡ without_event (behind domain n (sent_after (numbers_in r.device.function) n sent r.device) r)
-ins_behind domain n sent r steady one =
+ins_behind domain n sent r steady all =
     ap (λ (told : Telling StreamingWorld). record { lines = told.lines; world = with_streaming (behind domain n sent r) told.world })
-    (ins_wait domain (tones_of domain r.jacks) n sent (streaming_of r) steady one)
+    (ins_wait domain (tones_of domain r.jacks) n sent (streaming_of r) steady all)
 
 -- ---- the clock, and its ticks
 
@@ -148,7 +147,7 @@ advance_play domain n r steady =
     (λ u less.
     advance_settled domain (tones_of domain r.jacks) (suc u) (λ k. 0) r.device (less_steady domain n (suc u) r.device (omega (arith, less)) steady))
 
-clock_behind : (domain n sent : ℕ) (r : RunningWorld) → AreSteady domain n r.device
+clock_behind : (domain n : ℕ) (sent : List ℕ) (r : RunningWorld) → AreSteady domain n r.device
     → record (behind domain n sent r) { device = after_advance domain (behind domain n sent r).device } ≡ behind domain n sent (record r { device = after_advance domain r.device })
 clock_behind domain n sent r steady =
     ap (λ (v : DeviceWorld). record (behind domain n sent r) { device = v }) (advance_settled domain (tones_of domain r.jacks) n (sent_of sent r) r.device steady)
@@ -165,7 +164,7 @@ jacks_join domain n (suc t) jacks =
 tones_behind : (domain n : ℕ) (jacks : List Jack) → tones_of domain (jacks_after domain n jacks) ≡ later n (tones_of domain jacks)
 tones_behind domain n jacks = ap (tones_of domain) (jacks_each domain n jacks) ∙ tones_later domain n jacks
 
-renders_join : (domain n t sent : ℕ) (r : RunningWorld) → renders_after domain t (behind domain n sent r) ≡ renders_after domain (n + t) r
+renders_join : (domain n t : ℕ) (sent : List ℕ) (r : RunningWorld) → renders_after domain t (behind domain n sent r) ≡ renders_after domain (n + t) r
 unfolding renders_after
 renders_join domain n zero sent r = ap (λ (k : ℕ). renders_after domain k r) (sym (add-zero n))
 renders_join domain n (suc t) sent r =
@@ -175,13 +174,13 @@ renders_join domain n (suc t) sent r =
     ∙ ap (λ (k : ℕ). renders_after domain k r) same
 
 -- none of the ticks that come then meets anything
-left_steady : (domain n t sent : ℕ) (r : RunningWorld) → AreSteady domain (n + t) r.device → HaveSent n (sent_of sent r) r.device
+left_steady : (domain n t : ℕ) (sent : List ℕ) (r : RunningWorld) → AreSteady domain (n + t) r.device → HaveSent n (sent_of sent r) r.device
     → MeetsNothing domain t (behind domain n sent r).device
 left_steady domain n t sent r steady have =
     steady_meets_nothing domain t (behind domain n sent r).device (settled_steady domain (tones_of domain r.jacks) n t (sent_of sent r) r.device steady have)
 
 -- so many ticks more
-more_behind : (domain n t sent : ℕ) (r : RunningWorld) → AreSteady domain (n + t) r.device → HaveSent n (sent_of sent r) r.device
+more_behind : (domain n t : ℕ) (sent : List ℕ) (r : RunningWorld) → AreSteady domain (n + t) r.device → HaveSent n (sent_of sent r) r.device
     → running_after domain t (behind domain n sent r) ≡ behind domain (n + t) sent r
 unfolding running_after
 more_behind domain n t sent r steady have =
@@ -229,7 +228,7 @@ more_behind domain n t sent r steady have =
       renders = count;
     }) (renders_join domain n t sent r)
 
-ticks_behind : (domain n t sent : ℕ) (r : RunningWorld) → IsLone domain r → AreSteady domain (n + t) r.device → HaveSent n (sent_of sent r) r.device
+ticks_behind : (domain n t : ℕ) (sent : List ℕ) (r : RunningWorld) → IsLone domain r → AreSteady domain (n + t) r.device → HaveSent n (sent_of sent r) r.device
     → tick_times t domain (behind domain n sent r) ≡ without_event (behind domain (n + t) sent r)
 ticks_behind domain n t sent r lone steady have =
     ticks_by_parts t domain (behind domain n sent r)
@@ -239,7 +238,7 @@ ticks_behind domain n t sent r lone steady have =
     ∙ ap (λ (v : RunningWorld). without_event v) (more_behind domain n t sent r steady have)
 
 -- the domain's part of a microframe
-domain_behind : (domain n sent : ℕ) (r : RunningWorld) → IsLone domain r → AreSteady domain (n + next_ticks domain r.device) r.device → HaveSent n (sent_of sent r) r.device
+domain_behind : (domain n : ℕ) (sent : List ℕ) (r : RunningWorld) → IsLone domain r → AreSteady domain (n + next_ticks domain r.device) r.device → HaveSent n (sent_of sent r) r.device
     → all_domains (behind domain n sent r) ≡ without_event (behind domain (n + next_ticks domain r.device) sent (record r { device = after_advance domain r.device }))
 unfolding domain_microframes domain_microframe after_advance
 domain_behind domain n sent r lone steady have =
@@ -250,7 +249,7 @@ domain_behind domain n sent r lone steady have =
     ∙ ap (λ (lines : List Said). record { lines = lines; world = told.world }) (append-nil told.lines)
     ∙ ap (λ (k : ℕ). tick_times k domain (record v { device = after_advance domain v.device })) (next_ticks_settled domain (tones_of domain r.jacks) n (sent_of sent r) r.device)
     ∙ ap (λ (w : RunningWorld). tick_times t domain w) (clock_behind domain n sent r (less_steady domain (n + t) n r.device (omega arith) steady))
-    ∙ ticks_behind domain n t sent (record r { device = after_advance domain r.device }) (record { detail = lone.detail; only = lone.only; one = lone.one })
+    ∙ ticks_behind domain n t sent (record r { device = after_advance domain r.device }) (record { detail = lone.detail; only = lone.only; few = lone.few })
     (advance_steady domain (n + t) r.device steady) (advance_have_sent domain n (sent_of sent r) r.device have)
 
 -- ---- the end of the microframe, and reports
@@ -270,13 +269,13 @@ ends_play domain n r steady =
     ∙ ends_keep (λ (v : DeviceWorld). v.played) (λ interface v. refl) (streams_settled domain tones (suc u) (λ k. 0) (streaming_of r))
     ∙ played_settled domain tones u (λ k. 0) r.device
 
-ends_behind : (domain n sent : ℕ) (r : RunningWorld) → AreSteady domain n r.device
+ends_behind : (domain n : ℕ) (sent : List ℕ) (r : RunningWorld) → AreSteady domain n r.device
     → of_streams (all_ends 0) (behind domain n sent r) ≡ without_event (behind domain n sent (with_streaming r (all_ends 0 (streaming_of r)).world))
 ends_behind domain n sent r steady =
     event_behind (all_ends 0) domain n sent r (all_ends 0 (streaming_of r)).world (ends_wait domain (tones_of domain r.jacks) n (sent_of sent r) (streaming_of r) steady)
     (ends_function r) (ends_play domain n r steady)
 
-pub reports_behind : (marks : List PhraseMark) (domain n sent : ℕ) (r : RunningWorld)
+pub reports_behind : (marks : List PhraseMark) (domain n : ℕ) (sent : List ℕ) (r : RunningWorld)
     → of_streams (all_feedback 0 marks) (behind domain n sent r)
     ≡ without_event (behind domain n sent (with_streaming r (after_reports_of marks (device_settled domain n sent r) (streaming_of r))))
 reports_behind marks domain n sent r =
@@ -292,7 +291,7 @@ then_silent : (first next : RunningWorld → Telling RunningWorld) (r v w : Runn
     → followed_by first next r ≡ without_event w
 then_silent first next r v w one two = ap (λ (told : Telling RunningWorld). telling_after told.lines (next told.world)) one ∙ two
 
-numbered_behind : (domain n sent : ℕ) (r : RunningWorld) → numbered (behind domain n sent r) ≡ behind domain n sent (numbered r)
+numbered_behind : (domain n : ℕ) (sent : List ℕ) (r : RunningWorld) → numbered (behind domain n sent r) ≡ behind domain n sent (numbered r)
 numbered_behind domain n sent r =
     ap (λ (count : ℕ). record (numbered (behind domain n sent r)) { renders = count }) (sym (renders_like domain n r (numbered r) refl refl))
 
@@ -310,13 +309,13 @@ lone_outs : (domain : ℕ) (r : RunningWorld) → IsLone domain r → IsLone dom
 lone_outs domain r lone = record {
   detail = lone.detail;
   only = ap (λ (f : FunctionFields). f.domains) (outs_function r) ∙ lone.only;
-  one = subst (λ (f : FunctionFields). length (numbers_in f) ≤ 1) (sym (outs_function r)) lone.one;
+  few = subst (λ (f : FunctionFields). length (numbers_in f) ≤ 8) (sym (outs_function r)) lone.few;
 }
 
 pub ended_function : (domain : ℕ) (r : RunningWorld) → (ended domain r).device.function ≡ r.device.function
 ended_function domain r = ends_function (with_clock domain r) ∙ advance_function domain (with_outs r) ∙ outs_function r
 
-gone_function : (marks : List PhraseMark) (domain n sent : ℕ) (r : RunningWorld) → (gone_ahead marks domain n sent r).device.function ≡ r.device.function
+gone_function : (marks : List PhraseMark) (domain n : ℕ) (sent : List ℕ) (r : RunningWorld) → (gone_ahead marks domain n sent r).device.function ≡ r.device.function
 gone_function marks domain n sent r =
     ap (λ (v : DeviceWorld). v.function)
     (reports_device marks (device_settled domain (ticks_then domain n r) (sent_then n sent r) (with_ends domain r)) (ended domain r))
@@ -337,14 +336,14 @@ module _ (domain n : ℕ) (r : RunningWorld) (steady : AreSteady domain (n + 27)
   pub ends_still : AreSteady domain (ticks_then domain n r) (ended domain r).device
   ends_still = ends_steady domain (ticks_then domain n r) (clocked domain r) clock_still
 
-module _ (marks : List PhraseMark) (domain n sent : ℕ) (r : RunningWorld) (lone : IsLone domain r) (steady : AreSteady domain (n + 27) r.device)
+module _ (marks : List PhraseMark) (domain n : ℕ) (sent : List ℕ) (r : RunningWorld) (lone : IsLone domain r) (steady : AreSteady domain (n + 27) r.device)
     (fit : list_all (fits (streaming_of r)) (numbers_out r.device.function) ≡ true) (few : next_ticks domain (outs_sent r).device ≤ 27)
-    (have : HaveSent n (sent_of sent r) r.device) where
+    (have : HaveSent n (sent_of sent r) r.device) (all : length (numbers_in r.device.function) ≤ length sent) where
   -- so many ticks wait then, and so many frames were sent
   abbrev ticks_now : ℕ
   ticks_now = ticks_then domain n r
 
-  abbrev sent_now : ℕ
+  abbrev sent_now : List ℕ
   sent_now = sent_then n sent r
 
   pub gone_steady : AreSteady domain ticks_now (gone_ahead marks domain n sent r).device
@@ -357,14 +356,24 @@ module _ (marks : List PhraseMark) (domain n sent : ℕ) (r : RunningWorld) (lon
       subst (λ (f : FunctionFields). HaveSent n (sent_on (numbers_in f) sent) (outs_sent r).device) (sym (outs_function r))
       (outs_have_sent domain n (sent_of sent r) (streaming_of r) (more_steady domain n r steady fit few n (omega arith)) fit have)
 
+  -- each interface with a stream from the device has its number still
+  outs_all : length (numbers_in (outs_sent r).device.function) ≤ length sent
+  outs_all = subst (λ (f : FunctionFields). length (numbers_in f) ≤ length sent) (sym (outs_function r)) all
+
   ins_have : HaveSent n (sent_of sent_now (with_outs r)) (outs_sent r).device
-  ins_have = ins_have_sent n sent (outs_sent r).device outs_have
+  ins_have = ins_have_sent n sent (outs_sent r).device outs_all outs_have
 
   ends_have : HaveSent ticks_now (sent_of sent_now (with_outs r)) (ended domain r).device
   ends_have =
       ends_have_sent ticks_now (sent_of sent_now (with_outs r)) (clocked domain r)
       (later_have_sent n ticks_now (sent_of sent_now (with_outs r)) (clocked domain r).device (omega arith)
       (advance_have_sent domain n (sent_of sent_now (with_outs r)) (outs_sent r).device ins_have))
+
+  pub gone_all : length (numbers_in (gone_ahead marks domain n sent r).device.function) ≤ length sent_now
+  gone_all =
+      let same = sent_length (numbers_in (outs_sent r).device.function) n sent (outs_sent r).device outs_all in
+      subst (λ (f : FunctionFields). length (numbers_in f) ≤ length sent_now) (outs_function r ∙ sym (gone_function marks domain n sent r))
+      (omega (arith, outs_all, same))
 
   pub gone_have : HaveSent ticks_now (sent_of sent_now (gone_ahead marks domain n sent r)) (gone_ahead marks domain n sent r).device
   gone_have =
@@ -387,7 +396,7 @@ module _ (marks : List PhraseMark) (domain n sent : ℕ) (r : RunningWorld) (lon
       (behind domain ticks_now sent_now (with_clock domain r)) (outs_behind domain n sent r (more_steady domain n r steady fit few n (omega arith)) fit)
       (then_silent (of_streams (in_packets 0 [])) all_domains (behind domain n sent (with_outs r)) (behind domain n sent_now (with_outs r))
       (behind domain ticks_now sent_now (with_clock domain r))
-      (ins_behind domain n sent (with_outs r) (outs_still domain n r steady fit few n (omega arith)) (lone_outs domain r lone).one)
+      (ins_behind domain n sent (with_outs r) (outs_still domain n r steady fit few n (omega arith)) outs_all)
       (domain_behind domain n sent_now (with_outs r) (lone_outs domain r lone) (outs_still domain n r steady fit few ticks_now (omega (arith, few))) ins_have))
 
   ends_and_reports_behind : ends_and_feedback marks (behind domain ticks_now sent_now (with_clock domain r)) ≡ without_event (behind domain ticks_now sent_now (gone_ahead marks domain n sent r))
@@ -406,18 +415,18 @@ module _ (marks : List PhraseMark) (domain n sent : ℕ) (r : RunningWorld) (lon
       (behind domain ticks_now sent_now (gone_ahead marks domain n sent r)) (packets_behind none) ends_and_reports_behind
 
 -- a microframe behind the ticks that wait says nothing, and is one before them
-pub microframe_behind : (marks : List PhraseMark) (domain n sent : ℕ) (r : RunningWorld) → LosesNoPacket marks → IsLone domain r → AreSteady domain (n + 27) r.device
+pub microframe_behind : (marks : List PhraseMark) (domain n : ℕ) (sent : List ℕ) (r : RunningWorld) → LosesNoPacket marks → IsLone domain r → AreSteady domain (n + 27) r.device
     → list_all (fits (streaming_of r)) (numbers_out r.device.function) ≡ true → next_ticks domain (outs_sent (numbered r)).device ≤ 27
-    → HaveSent n (sent_of sent r) r.device
+    → HaveSent n (sent_of sent r) r.device → length (numbers_in r.device.function) ≤ length sent
     → microframe marks (behind domain n sent r)
     ≡ without_event (behind domain (ticks_then domain n (numbered r)) (sent_then n sent (numbered r)) (gone_ahead marks domain n sent (numbered r)))
 unfolding microframe
-microframe_behind marks domain n sent r none lone steady fit few have =
+microframe_behind marks domain n sent r none lone steady fit few have all =
     let v = behind domain n sent r in
     let told = followed_by (packets_and_ticks marks) (ends_and_feedback marks) (numbered v) in
     ap (λ (detail : ℕ). telling_after (number_said detail (at_most_u64 (v.time + 1))) told) lone.detail
     ∙ ap (λ (w : RunningWorld). followed_by (packets_and_ticks marks) (ends_and_feedback marks) w) (numbered_behind domain n sent r)
-    ∙ whole_behind marks domain n sent (numbered r) (record { detail = lone.detail; only = lone.only; one = lone.one }) steady fit few have none
+    ∙ whole_behind marks domain n sent (numbered r) (record { detail = lone.detail; only = lone.only; few = lone.few }) steady fit few have all none
 
 -- ---- what a microframe keeps
 
@@ -456,49 +465,50 @@ microframe_lone marks domain r small room lone =
     record {
       detail = microframe_detail marks r ∙ lone.detail;
       only = ap (λ (f : FunctionFields). f.domains) same ∙ lone.only;
-      one = subst (λ (f : FunctionFields). length (numbers_in f) ≤ 1) (sym same) lone.one;
+      few = subst (λ (f : FunctionFields). length (numbers_in f) ≤ 8) (sym same) lone.few;
     }
 
 -- ---- what is kept
 
-abbrev none_of : ℕ → ℕ
-none_of k = 0
-
-none_sent_at : (ns : List ℕ) (k : ℕ) → sent_on ns 0 k ≡ none_of k
-unfolding sent_on
-none_sent_at [] k = refl
-none_sent_at (n ∷ ns) k = by (k == n)
-  where
-    by : (b : Bool) → (if b then 0 else 0) ≡ none_of k
-    by true = refl
-    by false = refl
-
-none_sent_on : (ns : List ℕ) → sent_on ns 0 ≡ none_of
-none_sent_on ns = fun_ext (λ k. none_sent_at ns k)
-
-none_behind : (domain : ℕ) (r : RunningWorld) → r ≡ behind domain 0 0 r
+none_behind : (domain : ℕ) (r : RunningWorld) → r ≡ behind domain 0 (replicate 8 0) r
 unfolding after_tick_times jacks_after readings_after renders_after
 none_behind domain r =
     ap (λ (w : DeviceWorld). record r { device = w })
-    (sym (ap (λ (sent : ℕ → ℕ). settled domain (tones_of domain r.jacks) 0 sent r.device) (none_sent_on (numbers_in r.device.function))
+    (sym (ap (λ (sent : ℕ → ℕ). settled domain (tones_of domain r.jacks) 0 sent r.device) (none_sent_on (numbers_in r.device.function) 8)
     ∙ settled_none_sent domain (tones_of domain r.jacks) 0 r.device))
 
 -- nothing waits yet
-pub none_ahead : (domain : ℕ) (p : RunningFields) (shown : List Reading) (r : RunningWorld) → RunningStandsBetween p shown r → IsLone domain r → IsAhead domain 0 0 p shown r
-none_ahead domain p shown r stands lone = record {
+nothing_ahead : (domain : ℕ) (p : RunningFields) (shown : List Reading) (r : RunningWorld) → RunningStandsBetween p shown r → IsLone domain r
+    → IsAhead domain 0 (replicate 8 0) p shown r
+nothing_ahead domain p shown r stands lone = record {
   before = r;
   stands = stands.now;
   lone = lone;
+  all = lone.few;
   meets = nothing_waits domain r.device;
-  have = subst (λ (sent : ℕ → ℕ). HaveSent 0 sent r.device) (sym (none_sent_on (numbers_in r.device.function))) (none_have_sent 0 r.device);
+  have = subst (λ (sent : ℕ → ℕ). HaveSent 0 sent r.device) (sym (none_sent_on (numbers_in r.device.function) 8)) (none_have_sent 0 r.device);
   there =
-      subst (λ (sent : ℕ → ℕ). SentAreThere sent (after_tick_times domain (tones_of domain r.jacks) 0 r.device)) (sym (none_sent_on (numbers_in r.device.function)))
+      subst (λ (sent : ℕ → ℕ). SentAreThere sent (after_tick_times domain (tones_of domain r.jacks) 0 r.device)) (sym (none_sent_on (numbers_in r.device.function) 8))
       (none_are_there (after_tick_times domain (tones_of domain r.jacks) 0 r.device));
   done = none_behind domain r;
   room = stands.room;
 }
 
-few_next : (domain n sent : ℕ) (p : RunningFields) (shown : List Reading) (r : RunningWorld) (ahead : IsAhead domain n sent p shown r)
+pub none_ahead : (domain ticks : ℕ) (sent : List ℕ) (p : RunningFields) (shown : List Reading) (r : RunningWorld) → ticks ≡ 0 → sent ≡ replicate 8 0
+    → RunningStandsBetween p shown r → IsLone domain r → IsAhead domain ticks sent p shown r
+none_ahead domain ticks sent p shown r no_ticks no_frames stands lone =
+    subst (λ (k : ℕ). IsAhead domain k sent p shown r) (sym no_ticks)
+    (subst (λ (ms : List ℕ). IsAhead domain 0 ms p shown r) (sym no_frames) (nothing_ahead domain p shown r stands lone))
+
+-- and no frames are few
+pub none_are_few : (n : ℕ) (sent : List ℕ) → sent ≡ replicate n 0 → All (λ m. m ≤ 2176) sent
+none_are_few n sent no_frames =
+    subst (All (λ m. m ≤ 2176)) (sym no_frames)
+    (λ k d less.
+    let zeroth = get_or-replicate n k 0 d (subst (λ (long : ℕ). k < long) (length-replicate n 0) less) in
+    subst (λ (m : ℕ). m ≤ 2176) (sym zeroth) (omega arith))
+
+few_next : (domain n : ℕ) (sent : List ℕ) (p : RunningFields) (shown : List Reading) (r : RunningWorld) (ahead : IsAhead domain n sent p shown r)
     → next_ticks domain (outs_sent (numbered ahead.before)).device ≤ 27
 unfolding after_receiving
 few_next domain n sent p shown r ahead =
@@ -509,24 +519,24 @@ few_next domain n sent p shown r ahead =
     next_few (outs_sent b).device domain (subst (All (λ d. IsDeviationInRange d.deviation)) same ahead.room.deviations)
 
 -- where the counts of a microframe may run ahead
-pub record MayGoAhead (domain n sent : ℕ) (r : RunningWorld) : Type 0 where
+pub record MayGoAhead (domain n : ℕ) (sent : List ℕ) (r : RunningWorld) : Type 0 where
   pub steady : AreSteady domain (n + 27) r.device
   pub fit : list_all (fits (streaming_of r)) (numbers_out r.device.function) ≡ true
 
-ahead_done : (marks : List PhraseMark) (domain n sent : ℕ) (p : RunningFields) (shown : List Reading) (r : RunningWorld) → LosesNoPacket marks
+ahead_done : (marks : List PhraseMark) (domain n : ℕ) (sent : List ℕ) (p : RunningFields) (shown : List Reading) (r : RunningWorld) → LosesNoPacket marks
     → (ahead : IsAhead domain n sent p shown r) → MayGoAhead domain n sent ahead.before
     → microframe marks r
     ≡ without_event (behind domain (ticks_then domain n (numbered ahead.before)) (sent_then n sent (numbered ahead.before)) (gone_ahead marks domain n sent (numbered ahead.before)))
 ahead_done marks domain n sent p shown r none ahead may =
     ap (microframe marks) ahead.done
-    ∙ microframe_behind marks domain n sent ahead.before none ahead.lone may.steady may.fit (few_next domain n sent p shown r ahead) ahead.have
+    ∙ microframe_behind marks domain n sent ahead.before none ahead.lone may.steady may.fit (few_next domain n sent p shown r ahead) ahead.have ahead.all
 
-pub ahead_lines : (marks : List PhraseMark) (domain n sent : ℕ) (p : RunningFields) (shown : List Reading) (r : RunningWorld) → LosesNoPacket marks
+pub ahead_lines : (marks : List PhraseMark) (domain n : ℕ) (sent : List ℕ) (p : RunningFields) (shown : List Reading) (r : RunningWorld) → LosesNoPacket marks
     → (ahead : IsAhead domain n sent p shown r) → MayGoAhead domain n sent ahead.before → (microframe marks r).lines ≡ []
 ahead_lines marks domain n sent p shown r none ahead may = ap (λ (told : Telling RunningWorld). told.lines) (ahead_done marks domain n sent p shown r none ahead may)
 
 -- one microframe more ran ahead
-ahead_then : (marks : List PhraseMark) (domain n sent : ℕ) (p q : RunningFields) (shown : List Reading) (r : RunningWorld) → LosesNoPacket marks
+ahead_then : (marks : List PhraseMark) (domain n : ℕ) (sent : List ℕ) (p q : RunningFields) (shown : List Reading) (r : RunningWorld) → LosesNoPacket marks
     → (ahead : IsAhead domain n sent p shown r) → MayGoAhead domain n sent ahead.before → HaveRoom (microframe marks r).world.device
     → RunningStands q shown (gone_ahead marks domain n sent (numbered ahead.before))
     → IsAhead domain (ticks_then domain n (numbered ahead.before)) (sent_then n sent (numbered ahead.before)) q shown (microframe marks r).world
@@ -534,18 +544,19 @@ ahead_then marks domain n sent p q shown r none ahead may room stands =
     let b = numbered ahead.before in
     let gone = gone_ahead marks domain n sent b in
     let ticks = ticks_then domain n b in
-    let lone : IsLone domain b = record { detail = ahead.lone.detail; only = ahead.lone.only; one = ahead.lone.one } in
+    let lone : IsLone domain b = record { detail = ahead.lone.detail; only = ahead.lone.only; few = ahead.lone.few } in
     let same = gone_function marks domain n sent b in
-    let steady = gone_steady marks domain n sent b lone may.steady may.fit (few_next domain n sent p shown r ahead) ahead.have in
-    let have = gone_have marks domain n sent b lone may.steady may.fit (few_next domain n sent p shown r ahead) ahead.have in
+    let steady = gone_steady marks domain n sent b lone may.steady may.fit (few_next domain n sent p shown r ahead) ahead.have ahead.all in
+    let have = gone_have marks domain n sent b lone may.steady may.fit (few_next domain n sent p shown r ahead) ahead.have ahead.all in
     record {
       before = gone;
       stands = stands;
       lone = record {
         detail = ahead.lone.detail;
         only = ap (λ (f : FunctionFields). f.domains) same ∙ ahead.lone.only;
-        one = subst (λ (f : FunctionFields). length (numbers_in f) ≤ 1) (sym same) ahead.lone.one;
+        few = subst (λ (f : FunctionFields). length (numbers_in f) ≤ 8) (sym same) ahead.lone.few;
       };
+      all = gone_all marks domain n sent b lone may.steady may.fit (few_next domain n sent p shown r ahead) ahead.have ahead.all;
       meets = steady_meets_nothing domain ticks gone.device steady;
       have = have;
       there = sent_are_there domain (tones_of domain gone.jacks) ticks (sent_of (sent_then n sent b) gone) gone.device steady have;
@@ -553,21 +564,21 @@ ahead_then marks domain n sent p q shown r none ahead may room stands =
       room = room;
     }
 
-pub ahead_more : (marks : List PhraseMark) (domain n sent ticks more : ℕ) (p q : RunningFields) (shown : List Reading) (r : RunningWorld) → LosesNoPacket marks
+pub ahead_more : (marks : List PhraseMark) (domain n : ℕ) (sent : List ℕ) (ticks : ℕ) (more : List ℕ) (p q : RunningFields) (shown : List Reading) (r : RunningWorld) → LosesNoPacket marks
     → (ahead : IsAhead domain n sent p shown r) → MayGoAhead domain n sent ahead.before → HaveRoom (microframe marks r).world.device
     → ticks ≡ ticks_then domain n (numbered ahead.before) → more ≡ sent_then n sent (numbered ahead.before)
     → RunningStands q shown (gone_ahead marks domain n sent (numbered ahead.before)) → IsAhead domain ticks more q shown (microframe marks r).world
 ahead_more marks domain n sent ticks more p q shown r none ahead may room is_ticks is_more stands =
     subst (λ (k : ℕ). IsAhead domain k more q shown (microframe marks r).world) (sym is_ticks)
-    (subst (λ (k : ℕ). IsAhead domain (ticks_then domain n (numbered ahead.before)) k q shown (microframe marks r).world) (sym is_more)
+    (subst (λ (ms : List ℕ). IsAhead domain (ticks_then domain n (numbered ahead.before)) ms q shown (microframe marks r).world) (sym is_more)
     (ahead_then marks domain n sent p q shown r none ahead may room stands))
 
 -- what waited is done
-met_ahead : (domain n sent : ℕ) (p : RunningFields) (shown : List Reading) (r : RunningWorld) (ahead : IsAhead domain n sent p shown r)
+met_ahead : (domain n : ℕ) (sent : List ℕ) (p : RunningFields) (shown : List Reading) (r : RunningWorld) (ahead : IsAhead domain n sent p shown r)
     → met_after domain n ahead.before ≡ ahead.before.met
 met_ahead domain n sent p shown r ahead = met_nothing domain n ahead.before (λ t less. ahead.meets (tones_of domain ahead.before.jacks) t less)
 
-pub caught_up : (domain n sent : ℕ) (p q s : RunningFields) (shown showing : List Reading) (r : RunningWorld) (ahead : IsAhead domain n sent p shown r)
+pub caught_up : (domain n : ℕ) (sent : List ℕ) (p q s : RunningFields) (shown showing : List Reading) (r : RunningWorld) (ahead : IsAhead domain n sent p shown r)
     → ((v : RunningWorld) → RunningStands p shown v → met_after domain n v ≡ v.met → RunningStands q showing (running_after domain n v))
     → ((v : RunningWorld) → RunningStands q showing v → SentAreThere (sent_of sent v) v.device
     → RunningStands s showing (record v { device = after_sent (sent_of sent v) v.device }))
@@ -619,7 +630,7 @@ ends_told r detail =
     ∙ ap (λ (lines : List Said). record { lines = lines; world = with_streaming r (all_ends 0 (streaming_of r)).world }) (ends_silent (streaming_of r))
 
 -- the reports when so many ticks wait are those of the device when they are done
-pub reports_later : (domain n sent ticks : ℕ) (r : RunningWorld) → AreSteady domain (ticks_then domain n r) (ended domain r).device → ticks ≡ ticks_then domain n r
+pub reports_later : (domain n : ℕ) (sent : List ℕ) (ticks : ℕ) (r : RunningWorld) → AreSteady domain (ticks_then domain n r) (ended domain r).device → ticks ≡ ticks_then domain n r
     → (interface : ℕ)
     → feedback_in (device_settled domain (ticks_then domain n r) (sent_then n sent r) (with_streaming r (ended domain r))) interface
     ≡ feedback_later_in (ended domain r).device interface ticks
@@ -634,14 +645,14 @@ three_ok P Q R S (Ok x) f p q s = f x p q s
 three_ok P Q R S (Err e) f p q s = tt
 
 -- the world behind the ticks is of the same function, and so is alone
-pub function_ahead : (domain n sent : ℕ) (p : RunningFields) (shown : List Reading) (r : RunningWorld) → IsAhead domain n sent p shown r
+pub function_ahead : (domain n : ℕ) (sent : List ℕ) (p : RunningFields) (shown : List Reading) (r : RunningWorld) → IsAhead domain n sent p shown r
     → p.device.function ≡ r.device.function
 function_ahead domain n sent p shown r ahead =
     let b = ahead.before in
     ahead.stands.streaming.device.function ∙ sym (function_settled domain (tones_of domain b.jacks) n (sent_of sent b) b.device)
     ∙ ap (λ (v : RunningWorld). v.device.function) (sym ahead.done)
 
-pub lone_ahead : (domain n sent : ℕ) (p : RunningFields) (shown : List Reading) (r : RunningWorld) → IsAhead domain n sent p shown r → IsLone domain r
+pub lone_ahead : (domain n : ℕ) (sent : List ℕ) (p : RunningFields) (shown : List Reading) (r : RunningWorld) → IsAhead domain n sent p shown r → IsLone domain r
 lone_ahead domain n sent p shown r ahead =
     let b = ahead.before in
     let same : r.device.function ≡ b.device.function =
@@ -649,5 +660,5 @@ lone_ahead domain n sent p shown r ahead =
     record {
       detail = ap (λ (v : RunningWorld). v.detail) ahead.done ∙ ahead.lone.detail;
       only = ap (λ (f : FunctionFields). f.domains) same ∙ ahead.lone.only;
-      one = subst (λ (f : FunctionFields). length (numbers_in f) ≤ 1) (sym same) ahead.lone.one;
+      few = subst (λ (f : FunctionFields). length (numbers_in f) ≤ 8) (sym same) ahead.lone.few;
     }

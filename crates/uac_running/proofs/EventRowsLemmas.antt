@@ -4,12 +4,9 @@ use Rattle.std.specs.List.{find}
 use Rattle.std.proofs.Math.Path.{fun_ext}
 use Rattle.std.proofs.lemmas.Bool.{cases_Bool, eqb-true, le-leb, true≢false}
 use Rattle.uac_entities.specs.declared.stream.StreamInterface.{StreamInterface}
-use Rattle.std.proofs.lemmas.Option.{same_Some}
 use Rattle.uac_topology.specs.Function.{FunctionFields, interface_in}
 use Rattle.uac_graph.specs.Meaning.{entity}
 use Rattle.uac_graph.specs.Needs.{is_end}
-use Rattle.uac_graph.specs.TickRows.{frames_at}
-use Rattle.uac_graph.specs.Wiring.{frame_on}
 use Rattle.uac_ring.specs.declared.counts.StreamCounts.{StreamCounts}
 use Rattle.uac_units.specs.Hearing.{Reading, at_most_u64}
 use Rattle.uac_device.specs.DeviceKept as device
@@ -33,7 +30,7 @@ use Rattle.uac_running.specs.ReportLines.{Shows, played_lines}
 use Rattle.uac_running.specs.RunningKept.{HasItsJacks, RunningFields, RunningStands, RunningTells}
 use Rattle.uac_running.specs.TickCounts.{tick_count_of}
 use Rattle.uac_running.specs.Events.{tick_times}
-use Rattle.uac_running.specs.EventTicks.{device_after, device_before, jacks_after, lines_after, lines_at, met_after, running_after, shown_after}
+use Rattle.uac_running.specs.EventTicks.{device_after, device_before, jacks_after, lines_after, lines_at, met_after, running_after, shown_after, shown_from}
 use Rattle.uac_running.proofs.EventsLemmas.{IsBeside, stands_beside}
 use Rattle.uac_running.proofs.EventTicksLemmas.{jacks_each, renders_some, ticks_by_parts}
 use Rattle.uac_running.proofs.RunningKeptJackLemmas.{kept_after, kept_jacks}
@@ -98,24 +95,27 @@ met_nothing domain (suc t) r none =
 
 pub lines_shown : (domain n : ℕ) (r : RunningWorld) → ((t : ℕ) → t < n → met_of domain (device_before domain t r) ≡ nothing)
     → lines_after domain n r ≡ shown_after domain n r
-unfolding lines_after lines_at shown_after
+unfolding lines_after lines_at shown_from
 lines_shown domain zero r none = refl
 lines_shown domain (suc t) r none =
-    let played : List Said = if nat_le 1 r.detail then played_lines domain (device_after domain (suc t) r) else [] in
+    let played : ℕ → List Said = λ k. if nat_le 1 r.detail then played_lines domain (device_after domain (suc k) r) else [] in
+    let first : t ≡ 0 + t = omega arith in
     ap (λ (lines : List Said). lines ++ lines_at domain t r) (lines_shown domain t r (λ u less. none u (omega (arith, less))))
-    ∙ ap (λ (found : List Said). shown_after domain t r ++ (found ++ played)) (nothing_said domain (device_before domain t r) (none t (omega arith)))
+    ∙ ap (λ (found : List Said). shown_after domain t r ++ (found ++ played t)) (nothing_said domain (device_before domain t r) (none t (omega arith)))
+    ∙ ap (λ (k : ℕ). shown_after domain t r ++ played k) first
 
 -- at detail 0 nothing is shown
-pub none_shown : (domain n : ℕ) (r : RunningWorld) → r.detail ≡ 0 → shown_after domain n r ≡ []
-unfolding shown_after
-none_shown domain zero r quiet = refl
-none_shown domain (suc t) r quiet =
-    ap (λ (lines : List Said). lines ++ (if nat_le 1 r.detail then played_lines domain (device_after domain (suc t) r) else [])) (none_shown domain t r quiet)
-    ∙ ap (λ (n : ℕ). if nat_le 1 n then played_lines domain (device_after domain (suc t) r) else []) quiet
+pub none_shown : (domain from n : ℕ) (r : RunningWorld) → r.detail ≡ 0 → shown_from domain from n r ≡ []
+unfolding shown_from
+none_shown domain from zero r quiet = refl
+none_shown domain from (suc t) r quiet =
+    ap (λ (lines : List Said). lines ++ (if nat_le 1 r.detail then played_lines domain (device_after domain (suc (from + t)) r) else []))
+    (none_shown domain from t r quiet)
+    ∙ ap (λ (n : ℕ). if nat_le 1 n then played_lines domain (device_after domain (suc (from + t)) r) else []) quiet
 
 pub lines_nothing : (domain n : ℕ) (r : RunningWorld) → ((t : ℕ) → t < n → met_of domain (device_before domain t r) ≡ nothing) → r.detail ≡ 0
     → lines_after domain n r ≡ []
-lines_nothing domain n r none quiet = lines_shown domain n r none ∙ none_shown domain n r quiet
+lines_nothing domain n r none quiet = lines_shown domain n r none ∙ none_shown domain 0 n r quiet
 
 -- from detail 1 on something is
 pub is_told : (own detail : ℕ) → (own ≡ 0 → ⊥) → own ≡ detail → nat_le 1 detail ≡ true
@@ -126,25 +126,28 @@ is_told own detail some same = le-leb 1 detail (some_at own detail some same)
     some_at (suc n) m more is = omega (arith, is)
 
 -- and then one tick more says what it played
-pub shown_more : (domain t n : ℕ) (r : RunningWorld) → nat_le 1 r.detail ≡ true → n ≡ t + 1
-    → shown_after domain n r ≡ shown_after domain t r ++ played_lines domain (device_after domain n r)
-unfolding shown_after
-shown_more domain t n r told more =
-    let next : n ≡ suc t = omega (arith, more) in
-    rw next (ap (λ (b : Bool). shown_after domain t r ++ (if b then played_lines domain (device_after domain (suc t) r) else [])) told)
+pub shown_more : (domain from t n : ℕ) (r : RunningWorld) → nat_le 1 r.detail ≡ true → n ≡ from + t + 1
+    → shown_from domain from (t + 1) r ≡ shown_from domain from t r ++ played_lines domain (device_after domain n r)
+unfolding shown_from
+shown_more domain from t n r told more =
+    let next : suc (from + t) ≡ n = omega (arith, more) in
+    let last : t + 1 ≡ suc t = omega arith in
+    ap (λ (k : ℕ). shown_from domain from k r) last
+    ∙ ap (λ (b : Bool). shown_from domain from t r ++ (if b then played_lines domain (device_after domain (suc (from + t)) r) else [])) told
+    ∙ ap (λ (k : ℕ). shown_from domain from t r ++ played_lines domain (device_after domain k r)) next
 
 -- a front of the lines of a few ticks is one of those of more
-pub front_shown : (domain t more n : ℕ) (r : RunningWorld) (old new : Option (List ℕ)) → n ≡ more + t
-    → AppendsFront old new (text_of (shown_after domain t r)) → AppendsFront old new (text_of (shown_after domain n r))
-unfolding shown_after
-front_shown domain t zero n r old new is front =
+pub front_shown : (domain from t more n : ℕ) (r : RunningWorld) (old new : Option (List ℕ)) → n ≡ more + t
+    → AppendsFront old new (text_of (shown_from domain from t r)) → AppendsFront old new (text_of (shown_from domain from n r))
+unfolding shown_from
+front_shown domain from t zero n r old new is front =
     let same : t ≡ n = omega (arith, is) in
-    subst (λ (k : ℕ). AppendsFront old new (text_of (shown_after domain k r))) same front
-front_shown domain t (suc more) n r old new is front =
+    subst (λ (k : ℕ). AppendsFront old new (text_of (shown_from domain from k r))) same front
+front_shown domain from t (suc more) n r old new is front =
     let next : suc (more + t) ≡ n = omega (arith, is) in
-    let last : List Said = if nat_le 1 r.detail then played_lines domain (device_after domain (suc (more + t)) r) else [] in
-    subst (λ (k : ℕ). AppendsFront old new (text_of (shown_after domain k r))) next
-    (front_of_more old new (shown_after domain (more + t) r) last (front_shown domain t more (more + t) r old new refl front))
+    let last : List Said = if nat_le 1 r.detail then played_lines domain (device_after domain (suc (from + (more + t))) r) else [] in
+    subst (λ (k : ℕ). AppendsFront old new (text_of (shown_from domain from k r))) next
+    (front_of_more old new (shown_from domain from (more + t) r) last (front_shown domain from t more (more + t) r old new refl front))
 
 -- ---- the jacks
 
@@ -214,18 +217,16 @@ rows_ticked domain count steps shown showing r p q jacks stands own some unmet t
 
 -- what the rows of so many ticks hold is what these played
 pub shows_tick : (domain count tick : ℕ) (r : RunningWorld) (d : device.DeviceFields) → d.function ≡ r.device.function
-    → HoldPlayed domain (tones_of domain r.jacks) count r.device d.rows → tick < count → Shows (Some tick) domain d (device_after domain (tick + 1) r)
+    → HoldPlayed domain (tones_of domain r.jacks) count r.device d.rows → tick < count → Shows tick domain d (device_after domain (tick + 1) r)
 unfolding world_after played_after
 shows_tick domain count tick r d same hold less =
     let next : tick + 1 ≡ suc tick = omega arith in
     let function : (device_after domain (tick + 1) r).function ≡ r.device.function = ticked_function domain (tones_of domain r.jacks) (tick + 1) r.device in
     record {
       function = same ∙ sym function;
-      last = λ none. absurd (cc);
-      earlier = λ t is id end.
-          let one : tick ≡ t = same_Some tick t is in
+      rows = λ id end.
           let own : is_end domain (entity_in r.device id) ≡ true = subst (λ (f : FunctionFields). is_end domain (entity f.entities id) ≡ true) function end in
-          ap (λ (k : ℕ). frame_on (frames_at k d.rows) id) (sym one) ∙ hold tick less id own
+          hold tick less id own
           ∙ ap (λ (w : DeviceWorld). Some (w.played id))
           (sym (world_by_parts domain (tones_of domain r.jacks) (suc tick) r.device) ∙ ap (λ (k : ℕ). device_after domain k r) (sym next));
     }

@@ -1,5 +1,6 @@
 pub mod ReportLinesLemmas
 pub mod TellingLemmas
+pub mod GatheringLemmas
 pub mod RunningKeptJackLemmas
 pub mod StillnessLemmas
 pub mod SilenceLemmas
@@ -16,6 +17,7 @@ pub mod RunningLinesReportLemmas
 pub mod EventTicksLemmas
 pub mod EventRowsLemmas
 pub mod QuietLemmas
+pub mod IdleLemmas
 pub mod LossesLemmas
 pub mod AheadStandsLemmas
 pub mod AheadLemmas

@@ -3,7 +3,7 @@ use Rattle.std.proofs.Common.{◌≡◌, ℕ, ◌<◌, ◌==◌, ◌&&◌, Bool,
 use Rattle.std.specs.Prelude.{filter}
 use Rattle.std.specs.List.{All}
 use Rattle.std.specs.Option.{option_map}
-use Rattle.std.proofs.lemmas.Bool.{and_from, and_parts, cases_lt, cond-true, eq-eqb}
+use Rattle.std.proofs.lemmas.Bool.{and_from, and_parts, cases_lt, cond-false, cond-true, eq-eqb, ne_eqb}
 use Rattle.std.specs.List.{position_or_len}
 use Rattle.std.proofs.lemmas.List.Elements.{All-filter, All-map, filter_passes}
 use Rattle.std.proofs.lemmas.List.Sums.{prefix_len_passes}
@@ -103,12 +103,8 @@ jacks_clocked function sound =
     (λ k d below. ap (λ (e : Entity). e.clock)
     (All-filter is_output_jack (λ (e : Entity). entity function.entities e.id ≡ e) function.entities (each_own function.entities (sound_graph function sound)) k d below))
 
--- what a device that stands for a world played last
-pub shows_last : (domain : ℕ) (device : DeviceFields) (w : DeviceWorld) → DeviceStands device w → Shows None domain device w
-shows_last domain device w stands = record { function = stands.function; last = λ none. stands; earlier = λ t is. absurd (cc) }
-
--- what it played at an earlier tick
-pub earlier_played : (tick domain clock : ℕ) (device : DeviceFields) (w : DeviceWorld) (id : ℕ) → Shows (Some tick) domain device w
+-- what a device's output jack played in one of the ticks that it did at once last
+pub earlier_played : (tick domain clock : ℕ) (device : DeviceFields) (w : DeviceWorld) (id : ℕ) → Shows tick domain device w
     → is_output_jack (entity device.function.entities id) ≡ true → (entity device.function.entities id).clock ≡ clock → clock ≡ domain
     → samples_on (frames_at tick device.rows) id ≡ w.played id
 earlier_played tick domain clock device w id shows jack of_clock here =
@@ -117,7 +113,24 @@ earlier_played tick domain clock device w id shows jack of_clock here =
     let end : is_end domain (entity device.function.entities id) ≡ true =
     and_from (is_output (entity device.function.entities id).kind) _ output (eq-eqb _ _ (of_clock ∙ here)) in
     ap (λ (frame : Option (List ℤ)). unwrap_or frame [])
-    (shows.earlier tick refl id (subst (λ (f : FunctionFields). is_end domain (entity f.entities id) ≡ true) shows.function end))
+    (shows.rows id (subst (λ (f : FunctionFields). is_end domain (entity f.entities id) ≡ true) shows.function end))
+
+-- so that is said of an output jack of the domain, and of one of another nothing
+pub jack_said : (tick domain : ℕ) (device : DeviceFields) (w : DeviceWorld) (jacks : List OutputJack) (i : ℕ) (d : OutputJack) → IsSoundFunction device.function
+    → jacks ≡ jacks_of device.function.entities → i < length jacks → Shows tick domain device w → (get_or jacks i d).domain ≡ domain
+    → says_played (get_or jacks i d).terminal (samples_on (frames_at tick device.rows) (get_or jacks i d).terminal) ∷ [] ≡ of_jack domain w (get_or jacks i d)
+jack_said tick domain device w jacks i d sound same below shows here =
+    let j : OutputJack = get_or jacks i d in
+    let kinds : All (λ (k : OutputJack). is_output_jack (entity device.function.entities k.terminal) ≡ true) jacks =
+    subst (All (λ (k : OutputJack). is_output_jack (entity device.function.entities k.terminal) ≡ true)) (sym same) (jacks_are device.function sound) in
+    let clocks : All (λ (k : OutputJack). (entity device.function.entities k.terminal).clock ≡ k.domain) jacks =
+    subst (All (λ (k : OutputJack). (entity device.function.entities k.terminal).clock ≡ k.domain)) (sym same) (jacks_clocked device.function sound) in
+    ap (λ (samples : List ℤ). says_played j.terminal samples ∷ [])
+    (earlier_played tick domain j.domain device w j.terminal shows (kinds i d below) (clocks i d below) here)
+    ∙ sym (cond-true _ _ _ (eq-eqb _ _ here))
+
+pub none_said : (domain : ℕ) (w : DeviceWorld) (j : OutputJack) → (j.domain ≡ domain → ⊥) → [] ≡ of_jack domain w j
+none_said domain w j other = sym (cond-false _ _ _ (ne_eqb _ _ other))
 
 -- a terminal that is one has a frame
 played_here : (w : DeviceWorld) (device : DeviceFields) (id : ℕ) → DeviceStands device w → is_output_jack (entity device.function.entities id) ≡ true

@@ -1,10 +1,10 @@
 -- Several ticks of a domain of a running device, with the lines that they say: part by part after so many of them. A tick has the number
 -- of those before it (profile).
-use Rattle.std.specs.Prelude.{ℕ, zero, suc, ◌+◌, ◌==◌, ◌&&◌, nat_le, if◌then◌else◌, ℤ, List, [], ◌++◌, Option, Some, None}
+use Rattle.std.specs.Prelude.{ℕ, zero, suc, ◌+◌, nat_le, if◌then◌else◌, List, [], ◌++◌}
 use Rattle.uac_ring.specs.declared.counts.StreamCounts.{StreamCounts}
 use Rattle.uac_units.specs.Hearing.{at_most_u64}
 use Rattle.uac_device.specs.DeviceWorld.{DeviceWorld, renders_of}
-use Rattle.uac_device.specs.DeviceTicks.{Tones, after_tick_times, before_tick, readings_after}
+use Rattle.uac_device.specs.DeviceTicks.{after_tick_times, before_tick, readings_after}
 use Rattle.uac_transcript.specs.Transcript.{Said}
 use Rattle.uac_streaming.specs.Telling.{Telling}
 use Rattle.uac_streaming.specs.StreamingWorld.{found_counts, found_lines}
@@ -59,7 +59,11 @@ lines_after domain (suc t) r = lines_after domain t r ++ lines_at domain t r
 abbrev pub ticks_told : ℕ → ℕ → RunningWorld → Telling RunningWorld
 ticks_told domain t r = record { lines = lines_after domain t r; world = running_after domain t r }
 
--- what so many ticks say that find no ring empty and none full
-unfoldable pub shown_after : ℕ → ℕ → RunningWorld → List Said
-shown_after domain zero r = []
-shown_after domain (suc t) r = shown_after domain t r ++ (if nat_le 1 r.detail then played_lines domain (device_after domain (suc t) r) else [])
+-- what so many ticks say, after so many others, that find no ring empty and none full
+unfoldable pub shown_from : ℕ → ℕ → ℕ → RunningWorld → List Said
+shown_from domain from zero r = []
+shown_from domain from (suc t) r =
+    shown_from domain from t r ++ (if nat_le 1 r.detail then played_lines domain (device_after domain (suc (from + t)) r) else [])
+
+abbrev pub shown_after : ℕ → ℕ → RunningWorld → List Said
+shown_after domain t r = shown_from domain 0 t r

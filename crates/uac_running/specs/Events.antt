@@ -1,6 +1,6 @@
 -- Ticks and microframes of a running device, with the lines that they say (profile). A count stands still at the greatest number of
 -- 64 bits.
-use Rattle.std.specs.Prelude.{ℕ, zero, suc, ◌+◌, ◌==◌, nat_le, if◌then◌else◌, ℤ, List, [], ◌∷◌, ◌++◌, map, filter}
+use Rattle.std.specs.Prelude.{ℕ, zero, suc, ◌+◌, ◌==◌, nat_le, if◌then◌else◌, List, [], ◌∷◌, ◌++◌, map, filter}
 use Rattle.std.specs.List.{fold}
 use Rattle.uac_device.specs.DeviceWorld.{DeviceWorld, after_advance, next_ticks, renders_of, set_jack, after_tick, heard_of, after_frames}
 use Rattle.uac_units.specs.Hearing.{at_most_u64}

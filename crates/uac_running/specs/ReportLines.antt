@@ -1,5 +1,6 @@
 -- The lines that are said of a device's output jacks, and those of its domains and interfaces in the report (profile).
-use Rattle.std.specs.Prelude.{◌≡◌, ℕ, ◌/◌, Bool, true, false, List, map, filter, sum, Option, None, Some, unwrap_or}
+use Rattle.std.specs.Prelude.{◌≡◌, ℕ, ◌/◌, Bool, true, false, List, ◌++◌, map, filter, sum, Option, Some, unwrap_or, MatchResult, Result}
+use Rattle.std.specs.Io.KnownBytes.{Appends}
 use Rattle.uac_entities.specs.declared.entity.Entity.{Entity}
 use Rattle.uac_entities.specs.declared.stream.StreamInterface.{StreamInterface}
 use Rattle.uac_graph.specs.Needs.{is_end}
@@ -9,8 +10,10 @@ use Rattle.uac_store.specs.Rates.{rate_of}
 use Rattle.uac_alt.specs.AltSettings.{setting_of}
 use Rattle.uac_units.specs.Hearing.{at_most_u64}
 use Rattle.uac_ring.specs.declared.counts.StreamCounts.{StreamCounts}
+use Rattle.uac_edges.specs.Writing.{AppendsFront}
+use Rattle.uac_transcript.specs.Printing.{text_of}
 use Rattle.uac_transcript.specs.Transcript.{Said, says_played, says_domain, says_out_stream, says_in_stream}
-use Rattle.uac_device.specs.DeviceKept.{DeviceFields, DeviceStands}
+use Rattle.uac_device.specs.DeviceKept.{DeviceFields}
 use Rattle.uac_device.specs.DeviceWorld.{Domain, DeviceWorld, entity_in, is_output_jack_of, level_of, target_of}
 
 -- the output jacks of a domain, in block order
@@ -25,12 +28,20 @@ played_line w e = says_played e.id (w.played e.id)
 unfoldable pub played_lines : ℕ → DeviceWorld → List Said
 played_lines domain w = map (played_line w) (output_jacks domain w)
 
--- a device has what a world's output terminals of a domain played: in the last tick, or in one of those that it did at once last
-pub record Shows (tick : Option ℕ) (domain : ℕ) (device : DeviceFields) (w : DeviceWorld) : Type 0 where
+-- a device has what a world's output terminals of a domain played, in one of the ticks that it did at once last
+pub record Shows (tick domain : ℕ) (device : DeviceFields) (w : DeviceWorld) : Type 0 where
   pub function : device.function ≡ w.function
-  pub last : tick ≡ None → DeviceStands device w
-  pub earlier :
-      (t : ℕ) → tick ≡ Some t → (id : ℕ) → is_end domain (entity_in w id) ≡ true → frame_on (frames_at t device.rows) id ≡ Some (w.played id)
+  pub rows : (id : ℕ) → is_end domain (entity_in w id) ≡ true → frame_on (frames_at tick device.rows) id ≡ Some (w.played id)
+
+-- these lines were said since the start: what was written of them, and after it a text that waits
+pub record Gathers (start now : Option (List ℕ)) (text : List ℕ) (lines : List Said) : Type 0 where
+  pub front : List ℕ
+  pub written : Appends start now front
+  pub parts : text_of lines ≡ front ++ text
+
+-- at Ok these lines were said since the start, at Err a front of their text was written
+abbrev pub GathersMore : {T E : Type 0} → Option (List ℕ) → Option (List ℕ) → List ℕ → Result T E → List Said → Type 0
+GathersMore start now text result lines = MatchResult result (λ _. Gathers start now text lines) (λ _. AppendsFront start now (text_of lines))
 
 -- ---- the report
 

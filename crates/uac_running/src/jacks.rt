@@ -1,6 +1,6 @@
 // The jacks' tones.
 ghost use Rattle.std.specs.Prelude.{◌≡◌, ◌≤◌, true, IfOk, map, filter};
-ghost use Rattle.std.specs.List.{All};
+ghost use Rattle.std.specs.List.{All, list_any};
 ghost use Rattle.uac_graph.specs.Meaning.{entity};
 ghost use Rattle.uac_device.specs.DeviceKept.{DeviceStands};
 ghost use Rattle.uac_device.specs.DeviceWorld.{DeviceWorld};
@@ -64,6 +64,13 @@ fn jack_with_tone(jack: Jack, terminal: u8, tone: Tone) -> Jack
     } else {
         jack
     }
+}
+
+/// Whether a jack gives more than silence.
+pub(crate) fn any_is_audible(jacks: &[Jack]) -> bool
+    ensures { result ≡ list_any (λ j. silence.is_audible j.tone) jacks.now }
+{
+    jacks.iter().any(|jack| is_audible(jack.tone))
 }
 
 /// Whether a jack of a domain gives more than silence.

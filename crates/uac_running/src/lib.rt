@@ -10,6 +10,8 @@ mod report;
 
 /// Microframes whose counts run ahead.
 mod ahead;
+/// Microframes of a device that runs no stream.
+mod idle;
 /// The jacks' tones.
 mod jacks;
 /// A law of ticks.

@@ -1,6 +1,6 @@
 // The microframes of a running device: packets, ticks, and the ends of microframes.
 ghost use Rattle.std.specs.Prelude.{◌≡◌, ◌++◌, ℕ, List, ◌+◌, ◌*◌, ◌<◌, ◌≤◌, nat_le, true, false, if◌then◌else◌, [], IfSome, length, map, slice_index};
-ghost use Rattle.std.specs.List.{list_all};
+ghost use Rattle.std.specs.List.{All, list_all, list_any};
 ghost use Rattle.uac_entities.specs.EntityInterfaces.{channels_of};
 ghost use Rattle.uac_units.specs.Fitting.{IsFitted};
 ghost use Rattle.uac_units.specs.Hearing.{Reading, at_most_u64};
@@ -13,6 +13,7 @@ ghost use Rattle.uac_device.specs.DeviceWorld.{DeviceWorld, ZerosFitIn, after_ad
 ghost use Rattle.uac_device.specs.DeviceTicks.{HoldPlayed};
 ghost use Rattle.uac_device.specs.DeviceSums.{after_advances, kept_ticks, ticks_over};
 ghost use Rattle.uac_device.specs.Stillness.{IsStill};
+ghost use Rattle.uac_host.specs.HostFields.{GivesSilence};
 ghost use Rattle.uac_transcript.specs.Printing.{Prints};
 ghost use Rattle.uac_streaming.specs.StreamingWorld.{all_feedback, all_ends, found_lines, in_packets, out_packets};
 ghost use Rattle.uac_running.specs.RunningWorld.{RunningWorld};
@@ -20,18 +21,18 @@ ghost use Rattle.uac_running.specs.ReportLines.{played_lines};
 ghost use Rattle.uac_running.specs.Events.{after_all_jacks, domain_microframe, domain_microframes, ends_and_feedback, microframe};
 ghost use Rattle.uac_running.specs.Events.{microframes};
 ghost use Rattle.uac_running.specs.Events.{number_said, of_streams, packets_and_ticks, tick, tick_times};
-ghost use Rattle.uac_running.specs.EventTicks.{lines_after, met_after, running_after, shown_after, tones_of};
+ghost use Rattle.uac_running.specs.EventTicks.{lines_after, met_after, running_after, shown_after, shown_from, tones_of};
 ghost use Rattle.uac_running.specs.RunningKept.{RunningStands, RunningStandsBetween, RunningTells, RunningTellsBetween};
-ghost use Rattle.uac_running.specs.Quiet.{IsQuiet, Waits};
+ghost use Rattle.uac_running.specs.Quiet.{IsIdle, IsQuiet, Waits};
 ghost use Rattle.uac_running.specs.Silence.{AreAtRest, packets};
 ghost use Rattle.uac_running.specs.Silence as silence;
 
 use crate::counts::count_ticks;
-use crate::jacks::{next_frames, one_is_audible, pass_frames};
-use crate::printing::write_jacks;
+use crate::jacks::{any_is_audible, next_frames, one_is_audible, pass_frames};
+use crate::printing::{gather_jacks, write_jacks};
 use crate::running::Running;
 use uac_device::Ticked;
-use uac_edges::{Failed, Sink};
+use uac_edges::{Failed, Sink, TextLine, give_all};
 use uac_graph::laws::{fresh_steps_have_room, fresh_steps_have_room_for_ticks};
 use uac_script::Mark;
 use uac_streaming::write_found;
@@ -66,19 +67,26 @@ impl Running {
             (K.written sink.old) (K.written sink.new) result }
         ensures cause { HasCause (K.faults sink.old) (K.faults sink.new) result }
     {
-        if let Some(domain) = self.quiet_domain() {
+        if !self.suits_rows() {
+            return self.each_microframe(false, count, marks, rack, meters, sink);
+        }
+        if let Some(domain) = self.idle_domain() {
+            if self.detail >= 1 {
+                return self.idle_microframes(count, domain, rack, meters, sink);
+            }
             self.quiet_microframes(count, domain, rack, meters);
             return Ok(());
         }
         if let Some(domain) = self.lone_domain(marks) {
             return self.ahead_microframes(count, marks, domain, rack, meters, sink);
         }
-        self.each_microframe(count, marks, rack, meters, sink)
+        self.each_microframe(true, count, marks, rack, meters, sink)
     }
 
-    /// Runs so many microframes, one after the other.
+    /// Runs so many microframes, one after the other; where `rows` tells so, several ticks of each at once.
     fn each_microframe<K: Sink>(
         &mut self,
+        rows: bool,
         count: u32,
         marks: &[Mark],
         rack: &Rack,
@@ -94,24 +102,34 @@ impl Running {
         ensures cause { HasCause (K.faults sink.old) (K.faults sink.new) result }
     {
         for _passed in 0..count {
-            self.microframe(marks, rack, meters, sink)?;
+            self.microframe(rows, marks, rack, meters, sink)?;
         }
         Ok(())
     }
 
-    /// The only domain of a device that runs no stream, where no microframe says anything, at detail 0, and where its ticks are done faster
-    /// at once.
-    fn quiet_domain(&self) -> Option<u8>
-        ensures { (meters : List Reading) (r : RunningWorld) → RunningStands self.now meters r → IfSome result (λ domain. IsQuiet domain r) }
+    /// The only domain of a device that runs no stream.
+    fn idle_domain(&self) -> Option<u8>
+        ensures { (meters : List Reading) (r : RunningWorld) → RunningStands self.now meters r → IfSome result (λ domain. IsIdle domain r) }
     {
-        let function = self.device.function();
-        if self.detail >= 1 || self.device.runs() || !has_narrow_streams(function) {
+        if self.device.runs() {
             return None;
         }
-        match function.domains() {
+        match self.device.function().domains() {
             [domain] => Some(*domain),
             _ => None,
         }
+    }
+
+    /// Whether several ticks are done faster at once: where no stream has more than two channels, or nothing sounds. A few frames of more
+    /// are moved faster one by one than channel by channel.
+    fn suits_rows(&self) -> bool
+        ensures narrow { list_all (λ s. nat_le (channels_of self.now.device.function.entities s.terminal) 2) self.now.device.function.streams ≡ true
+            → result ≡ true }
+        ensures silent { (All (λ l. GivesSilence l.track) self.now.streaming.host)
+            × (list_any (λ j. silence.is_audible j.tone) self.now.jacks ≡ false) → result ≡ true }
+    {
+        has_narrow_streams(self.device.function())
+            || (self.streaming.is_silent() && !any_is_audible(&self.jacks))
     }
 
     /// Runs so many microframes of a device of one domain that runs no stream, at detail 0. They go several at once.
@@ -158,10 +176,11 @@ impl Running {
         self.do_ticks(waiting, domain, rack, meters);
     }
 
-    /// One microframe.
+    /// One microframe; where `rows` tells so, several ticks of it at once.
     #[inline(never)]
     pub(crate) fn microframe<K: Sink>(
         &mut self,
+        rows: bool,
         marks: &[Mark],
         rack: &Rack,
         meters: &mut Meters,
@@ -178,14 +197,15 @@ impl Running {
         functions_are_sound(self.device.function());
         interfaces_are_numbered();
         self.pass();
-        self.write_number(sink)?;
-        self.packets_and_ticks(marks, rack, meters, sink)?;
+        self.write_number(self.time, sink)?;
+        self.packets_and_ticks(rows, marks, rack, meters, sink)?;
         self.ends_and_feedback(marks, sink)
     }
 
     /// The packets of a microframe, and the ticks of each domain.
     fn packets_and_ticks<K: Sink>(
         &mut self,
+        rows: bool,
         marks: &[Mark],
         rack: &Rack,
         meters: &mut Meters,
@@ -199,7 +219,7 @@ impl Running {
         ensures cause { HasCause (K.faults sink.old) (K.faults sink.new) result }
     {
         self.packets(marks, sink)?;
-        self.domain_microframes(rack, meters, sink)
+        self.domain_microframes(rows, rack, meters, sink)
     }
 
     /// The packets of a microframe: those to the device, and those from it. Where no stream runs there are none.
@@ -293,13 +313,13 @@ impl Running {
         self.time = self.time.saturating_add(u64::from(count));
     }
 
-    /// Prints the number of the microframe from detail 2 on.
-    fn write_number<K: Sink>(&self, sink: &mut K) -> Result<(), Failed>
-        ensures printed { Prints (K.written sink.old) (K.written sink.new) result (number_said self.now.detail self.now.time) }
+    /// Prints the number of a microframe from detail 2 on.
+    pub(crate) fn write_number<K: Sink>(&self, time: u64, sink: &mut K) -> Result<(), Failed>
+        ensures printed { Prints (K.written sink.old) (K.written sink.new) result (number_said self.now.detail time) }
         ensures cause { HasCause (K.faults sink.old) (K.faults sink.new) result }
     {
         if self.detail >= 2 {
-            return write_microframe(sink, self.time);
+            return write_microframe(sink, time);
         }
         Ok(())
     }
@@ -307,6 +327,7 @@ impl Running {
     /// Each domain's part of a microframe, in order.
     fn domain_microframes<K: Sink>(
         &mut self,
+        rows: bool,
         rack: &Rack,
         meters: &mut Meters,
         sink: &mut K,
@@ -319,7 +340,7 @@ impl Running {
         ensures cause { HasCause (K.faults sink.old) (K.faults sink.new) result }
     {
         for index in 0..self.domain_count() {
-            self.domain_microframe(self.clock_at(index), rack, meters, sink)?;
+            self.domain_microframe(rows, self.clock_at(index), rack, meters, sink)?;
         }
         Ok(())
     }
@@ -342,6 +363,7 @@ impl Running {
     /// A domain's part of a microframe.
     fn domain_microframe<K: Sink>(
         &mut self,
+        rows: bool,
         domain: u8,
         rack: &Rack,
         meters: &mut Meters,
@@ -355,7 +377,7 @@ impl Running {
         ensures function { self.new.device.function ≡ self.old.device.function }
     {
         let ticks = self.advance(domain);
-        self.ticks(ticks, domain, rack, meters, sink)
+        self.ticks(rows, ticks, domain, rack, meters, sink)
     }
 
     /// A domain's clock goes on by one microframe; answers how often it ticks. These ticks are counted.
@@ -365,6 +387,7 @@ impl Running {
         ensures ticks { (meters : List Reading) (r : RunningWorld) → RunningStands self.old meters r → result ≡ next_ticks domain r.device }
         ensures few { result ≤ 27 }
         ensures function { self.new.device.function ≡ self.old.device.function }
+        ensures detail { self.new.detail ≡ self.old.detail }
     {
         self.advance_over(domain, 1)
     }
@@ -380,15 +403,17 @@ impl Running {
         ensures kept { result ≡ kept_ticks self.old.device domain count }
         ensures few { result ≤ 27 * count }
         ensures function { self.new.device.function ≡ self.old.device.function }
+        ensures detail { self.new.detail ≡ self.old.detail }
     {
         let ticks = self.device.ticks_over(domain, count);
         count_ticks(&mut self.counts, domain, ticks);
         ticks
     }
 
-    /// Does so many ticks of a domain: at once, or one after the other.
+    /// Does so many ticks of a domain: at once, where `rows` tells so and it can be, or one after the other.
     fn ticks<K: Sink>(
         &mut self,
+        rows: bool,
         count: u32,
         domain: u8,
         rack: &Rack,
@@ -402,9 +427,9 @@ impl Running {
         ensures cause { HasCause (K.faults sink.old) (K.faults sink.new) result }
         ensures function { self.new.device.function ≡ self.old.device.function }
     {
-        if has_narrow_streams(self.device.function()) && self.meets_nothing(count, domain) {
+        if rows && self.meets_nothing(count, domain) {
             self.tick_rows(count, domain, rack, meters);
-            return self.show_rows(count, domain, sink);
+            return self.show_rows(0, count, domain, sink);
         }
         self.tick_each(count, domain, rack, meters, sink)
     }
@@ -422,21 +447,29 @@ impl Running {
         count >= 2 && count <= 128 && self.device.goes_on(domain, count)
     }
 
-    /// Prints what a domain's output jacks played at each of so many ticks that were done at once last, from detail 1 on.
-    fn show_rows<K: Sink>(&self, count: u32, domain: u8, sink: &mut K) -> Result<(), Failed>
-        requires { count ≤ 128 }
-        ensures printed { (r : RunningWorld) → self.now.detail ≡ r.detail → self.now.device.function ≡ r.device.function
-            → HoldPlayed domain (tones_of domain r.jacks) count r.device self.now.device.rows
-            → Prints (K.written sink.old) (K.written sink.new) result (shown_after domain count r) }
+    /// Prints what a domain's output jacks played at each of so many ticks, after so many others, of those that were done at once last, from
+    /// detail 1 on.
+    pub(crate) fn show_rows<K: Sink>(
+        &self,
+        from: u32,
+        count: u32,
+        domain: u8,
+        sink: &mut K,
+    ) -> Result<(), Failed>
+        requires { from + count ≤ 128 }
+        ensures printed { (done : ℕ) (r : RunningWorld) → from + count ≤ done → self.now.detail ≡ r.detail
+            → self.now.device.function ≡ r.device.function → HoldPlayed domain (tones_of domain r.jacks) done r.device self.now.device.rows
+            → Prints (K.written sink.old) (K.written sink.new) result (shown_from domain from count r) }
         ensures cause { HasCause (K.faults sink.old) (K.faults sink.new) result }
     {
         if self.detail == 0 {
             return Ok(());
         }
-        for tick in 0..count {
-            write_jacks(sink, &self.device, domain, Some(tick))?;
+        let mut text: TextLine<1024> = TextLine::new();
+        for tick in from..from + count {
+            gather_jacks(&mut text, sink, &self.device, domain, tick)?;
         }
-        Ok(())
+        give_all(sink, text.as_bytes())
     }
 
     /// So many ticks of a domain at once: its jacks give their next frames, the device ticks, and the meters hear its output jacks. The
@@ -567,14 +600,14 @@ impl Running {
         ensures cause { HasCause (K.faults sink.old) (K.faults sink.new) result }
     {
         if self.detail >= 1 {
-            return write_jacks(sink, &self.device, domain, None);
+            return write_jacks(sink, &self.device, domain);
         }
         Ok(())
     }
 }
 
-/// Whether no stream has more than two channels. A few frames of more are moved faster one by one than channel by channel.
-pub(crate) fn has_narrow_streams(function: &Function) -> bool
+/// Whether no stream has more than two channels.
+fn has_narrow_streams(function: &Function) -> bool
     ensures { result ≡ list_all (λ s. nat_le (channels_of function.now.entities s.terminal) 2) function.now.streams }
 {
     function

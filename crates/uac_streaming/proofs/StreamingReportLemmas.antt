@@ -1,57 +1,64 @@
 -- What is known of packets and reports while the device's ticks wait.
-use Rattle.std.proofs.Common.{◌≡◌, ◌∙◌, sym, ap, subst, refl, arith, ℕ, ◌+◌, ◌<◌, ◌≤◌, ◌==◌, Bool, true, false, if◌then◌else◌, List, [], ◌∷◌, length, drop, get_or, Option, Some, None, drop-cons, add-one, eq-eqb}
+use Rattle.std.proofs.Common.{◌≡◌, ◌∙◌, sym, ap, subst, refl, arith, ℕ, zero, suc, ◌+◌, ◌<◌, ◌≤◌, ◌==◌, nat_eq, Bool, true, false, if◌then◌else◌, List, [], ◌∷◌, length, min, drop, take, get_or, set, Option, Some, None, drop-cons, add-one, eq-eqb}
 use Rattle.std.specs.Prelude.{IfSome}
+use Rattle.std.specs.List.{AllByRecursion, IsDistinct}
 use Rattle.std.specs.Option.{option_map, option_map_or}
 use Rattle.std.proofs.Math.Path.{fun_ext}
+use Rattle.std.proofs.lemmas.Bool.{ne_eqb, true≢false}
 use Rattle.std.proofs.lemmas.List.{drop_all}
+use Rattle.std.proofs.lemmas.Map.Keys.{IsDistinct-head, IsDistinct-tail}
 use Rattle.uac_topology.specs.Function.{FunctionFields}
 use Rattle.uac_rate.specs.Steadiness.{with_report_given}
 use Rattle.uac_flow.specs.FlowStreams.{InStream, in_level}
 use Rattle.uac_flow.specs.FlowWaits.{sent_more}
 use Rattle.uac_device.specs.DeviceKept as devices
-use Rattle.uac_device.specs.DeviceWorld.{DeviceWorld, at_in, feedback_in, is_due_in}
-use Rattle.uac_device.specs.DeviceWaits.{SentAreThere, after_sent, frames_later_in}
+use Rattle.uac_device.specs.DeviceWorld.{DeviceWorld, at_in, feedback_in}
+use Rattle.uac_device.specs.DeviceWaits.{SentAreThere, after_sent}
+use Rattle.uac_device.proofs.DeviceWaitsLemmas.{same_number}
 use Rattle.uac_script.specs.Phrase.{PhraseMark}
 use Rattle.uac_streaming.specs.Telling.{Telling, in_turn, without_event}
 use Rattle.uac_streaming.specs.StreamingWorld.{StreamingWorld, all_feedback, feedback_lines, feedback_made, feedback_turn, given_at, loses_feedback, numbers, stream_index}
-use Rattle.uac_streaming.specs.StreamingWaits.{after_report_of, after_reports_of, sent_after, sent_on, with_device}
+use Rattle.uac_streaming.specs.StreamingWaits.{after_report_of, after_reports_of, one_sent_after, sent_after, sent_on, with_device}
 
--- ---- the first interface
+-- ---- the numbers that are sent after the packets of these interfaces
 
--- the first of these is read from a copy of them
-pub first_read : (copy ns : List ℕ) (n : ℕ) → copy ≡ ns → 0 < length copy → n ≡ get_or copy 0 n → ns ≡ n ∷ drop 1 ns
-first_read [] ns n same some read = absurd (omega (arith, some))
-first_read (m ∷ ms) ns n same some read =
-    subst (λ (xs : List ℕ). xs ≡ n ∷ drop 1 xs) same (ap (λ (k : ℕ). k ∷ ms) (sym read))
+-- none had a packet yet
+pub none_were_sent : (ticks : ℕ) (ms : List ℕ) (w : DeviceWorld) → ms ≡ sent_after [] ticks ms w
+unfolding sent_after
+none_were_sent ticks ms w = refl
 
--- read twice, it is the same
-pub same_read : (ms : List ℕ) (m n : ℕ) → 0 < length ms → m ≡ get_or ms 0 m → n ≡ get_or ms 0 n → m ≡ n
-same_read [] m n some once again = absurd (omega (arith, some))
-same_read (k ∷ ks) m n some once again = once ∙ sym again
+-- the first ones had their packet, and now the next one has
+next_sent : (i ticks : ℕ) (ns ms : List ℕ) (w : DeviceWorld) → i < length ns → i < length ms
+    → set (sent_after (take i ns) ticks ms w) i (one_sent_after (get_or ns i 0) ticks (get_or (sent_after (take i ns) ticks ms w) i 0) w)
+    ≡ sent_after (take (suc i) ns) ticks ms w
+unfolding sent_after
+next_sent i ticks [] ms w one many = absurd (omega (arith, one))
+next_sent i ticks (n ∷ ns) [] w one many = absurd (omega (arith, many))
+next_sent zero ticks (n ∷ ns) (m ∷ ms) w one many = refl
+next_sent (suc i) ticks (n ∷ ns) (m ∷ ms) w one many =
+    ap (λ (rest : List ℕ). one_sent_after n ticks m w ∷ rest) (next_sent i ticks ns ms w (omega (arith, one)) (omega (arith, many)))
 
--- there is none
-pub none_there : (copy ns : List ℕ) → copy ≡ ns → length copy ≤ 0 → ns ≡ []
-none_there [] ns same none = sym same
-none_there (m ∷ ms) ns same none = absurd (omega (arith, none))
+-- as a turn of the loop has it: of an interface that was read, and at a number that was given
+pub one_more_sent : (i ticks n more : ℕ) (ns ms so_far : List ℕ) (w : DeviceWorld) → i < length ns → i < length ms → n ≡ get_or ns i 0
+    → so_far ≡ sent_after (take i ns) ticks ms w → more ≡ one_sent_after n ticks (get_or so_far i 0) w
+    → set so_far i more ≡ sent_after (take (i + 1) ns) ticks ms w
+one_more_sent i ticks n more ns ms so_far w one many which is makes =
+    ap (set so_far i) (makes ∙ ap (λ (k : ℕ). one_sent_after k ticks (get_or so_far i 0) w) which)
+    ∙ ap (λ (xs : List ℕ). set xs i (one_sent_after (get_or ns i 0) ticks (get_or xs i 0) w)) is
+    ∙ next_sent i ticks ns ms w one many
+    ∙ ap (λ (k : ℕ). sent_after (take k ns) ticks ms w) (sym (add-one i))
 
-module _ (ns : List ℕ) (ticks sent : ℕ) (w : DeviceWorld) where
-  pub none_more_sent : ns ≡ [] → sent ≡ sent_after ns ticks sent w
-  unfolding sent_after
-  none_more_sent none = ap (λ (ms : List ℕ). sent_after ms ticks sent w) (sym none)
-
-  pub rests_unsent : (n : ℕ) (due : Bool) → ns ≡ n ∷ drop 1 ns → due ≡ is_due_in w n → due ≡ false → sent ≡ sent_after ns ticks sent w
-  unfolding sent_after
-  rests_unsent n due first is idle =
-      ap (λ (b : Bool). if b then sent + frames_later_in w n ticks sent else sent) (sym idle ∙ is)
-      ∙ ap (λ (ms : List ℕ). sent_after ms ticks sent w) (sym first)
-
-  pub more_sent : (n frames : ℕ) (due : Bool) → ns ≡ n ∷ drop 1 ns → due ≡ is_due_in w n → due ≡ true → frames ≡ frames_later_in w n ticks sent
-      → sent + frames ≡ sent_after ns ticks sent w
-  unfolding sent_after
-  more_sent n frames due first is runs many =
-      ap (λ (m : ℕ). sent + m) many
-      ∙ ap (λ (b : Bool). if b then sent + frames_later_in w n ticks sent else sent) (sym runs ∙ is)
-      ∙ ap (λ (ms : List ℕ). sent_after ms ticks sent w) (sym first)
+-- where there are no more, these are all
+pub all_were_sent : (i ticks : ℕ) (ns ms : List ℕ) (w : DeviceWorld) → min (length ns) (length ms) ≤ i
+    → sent_after (take i ns) ticks ms w ≡ sent_after ns ticks ms w
+unfolding sent_after
+all_were_sent zero ticks [] ms w past = refl
+all_were_sent (suc i) ticks [] ms w past = refl
+all_were_sent zero ticks (n ∷ ns) [] w past = refl
+all_were_sent (suc i) ticks (n ∷ ns) [] w past = refl
+all_were_sent zero ticks (n ∷ ns) (m ∷ ms) w past = absurd (omega (arith, past))
+all_were_sent (suc i) ticks (n ∷ ns) (m ∷ ms) w past =
+    ap (λ (rest : List ℕ). one_sent_after n ticks m w ∷ rest) (all_were_sent i ticks ns ms w (omega (arith, past)))
 
 -- ---- frames that are gone
 
@@ -61,38 +68,121 @@ none_gone (Some i) =
     let same : i.gone + 0 ≡ i.gone = omega arith in
     ap (λ (gone : ℕ). Some (record i { gone = gone })) same
 
-gone_on : (sent : ℕ) (here : Bool) (in_ : Option InStream)
-    → (if here then option_map (sent_more sent) in_ else in_) ≡ option_map (sent_more (if here then sent else 0)) in_
-gone_on sent true in_ = refl
-gone_on sent false in_ = sym (none_gone in_)
+-- where frames of an interface are gone of which none were before
+gone_on : (sent before : ℕ) (here : Bool) (in_ : Option InStream) → (here ≡ true → before ≡ 0)
+    → (if here then option_map (sent_more sent) (option_map (sent_more before) in_) else option_map (sent_more before) in_)
+    ≡ option_map (sent_more (if here then sent else before)) in_
+gone_on sent before true in_ none =
+    ap (λ (m : ℕ). option_map (sent_more sent) (option_map (sent_more m) in_)) (none refl) ∙ ap (option_map (sent_more sent)) (none_gone in_)
+gone_on sent before false in_ none = refl
+
+-- none of these is a number that differs from all of them
+other_at : (n i : ℕ) (ns : List ℕ) → AllByRecursion (λ k. nat_eq n k ≡ false) ns → i < length ns → (get_or ns i 0 == n) ≡ false
+other_at n i [] apart below = absurd (omega (arith, below))
+other_at n zero (k ∷ ks) apart below = ne_eqb k n (λ same. true≢false (sym (eq-eqb n k (sym same)) ∙ apart.0))
+other_at n (suc i) (k ∷ ks) apart below = other_at n i ks apart.1 (omega (arith, below))
+
+-- an interface's number is the one at its place
+sent_there : (i : ℕ) (ns ms : List ℕ) → IsDistinct nat_eq ns → i < length ns → i < length ms → sent_on ns ms (get_or ns i 0) ≡ get_or ms i 0
+unfolding sent_on
+sent_there i [] ms once one many = absurd (omega (arith, one))
+sent_there i (n ∷ ns) [] once one many = absurd (omega (arith, many))
+sent_there zero (n ∷ ns) (m ∷ ms) once one many = ap (λ (here : Bool). if here then m else sent_on ns ms n) (eq-eqb n n refl)
+sent_there (suc i) (n ∷ ns) (m ∷ ms) once one many =
+    let k : ℕ = get_or ns i 0 in
+    ap (λ (here : Bool). if here then m else sent_on ns ms k) (other_at n i ns (IsDistinct-head nat_eq n ns once) (omega (arith, one)))
+    ∙ sent_there i ns ms (IsDistinct-tail nat_eq n ns once) (omega (arith, one)) (omega (arith, many))
+
+-- and among those before it there is none for it
+none_before : (i : ℕ) (ns ms : List ℕ) → IsDistinct nat_eq ns → i < length ns → sent_on (take i ns) ms (get_or ns i 0) ≡ 0
+unfolding sent_on
+none_before i [] ms once one = absurd (omega (arith, one))
+none_before zero (n ∷ ns) ms once one = refl
+none_before (suc i) (n ∷ ns) [] once one = refl
+none_before (suc i) (n ∷ ns) (m ∷ ms) once one =
+    let k : ℕ = get_or ns i 0 in
+    ap (λ (here : Bool). if here then m else sent_on (take i ns) ms k) (other_at n i ns (IsDistinct-head nat_eq n ns once) (omega (arith, one)))
+    ∙ none_before i ns ms (IsDistinct-tail nat_eq n ns once) (omega (arith, one))
+
+-- those of one more
+sent_to : (i k : ℕ) (ns ms : List ℕ) → IsDistinct nat_eq ns → i < length ns → i < length ms
+    → (if k == get_or ns i 0 then get_or ms i 0 else sent_on (take i ns) ms k) ≡ sent_on (take (suc i) ns) ms k
+unfolding sent_on
+sent_to i k [] ms once one many = absurd (omega (arith, one))
+sent_to i k (n ∷ ns) [] once one many = absurd (omega (arith, many))
+sent_to zero k (n ∷ ns) (m ∷ ms) once one many = refl
+sent_to (suc i) k (n ∷ ns) (m ∷ ms) once one many =
+    by (k == n) refl (sent_to i k ns ms (IsDistinct-tail nat_eq n ns once) (omega (arith, one)) (omega (arith, many)))
+  where
+    by : (first : Bool) → (k == n) ≡ first
+        → (if k == get_or ns i 0 then get_or ms i 0 else sent_on (take i ns) ms k) ≡ sent_on (take (suc i) ns) ms k
+        → (if k == get_or ns i 0 then get_or ms i 0 else (if first then m else sent_on (take i ns) ms k)) ≡ (if first then m else sent_on (take (suc i) ns) ms k)
+    by true is rest =
+        let other : (n == get_or ns i 0) ≡ false =
+        ne_eqb n (get_or ns i 0)
+        (λ same. true≢false (sym (eq-eqb (get_or ns i 0) n (sym same)) ∙ other_at n i ns (IsDistinct-head nat_eq n ns once) (omega (arith, one)))) in
+        ap (λ (here : Bool). if here then get_or ms i 0 else m) (ap (λ (j : ℕ). j == get_or ns i 0) (same_number k n is) ∙ other)
+    by false is rest = rest
+
+module _ (i : ℕ) (ns ms : List ℕ) (once : IsDistinct nat_eq ns) (one : i < length ns) (many : i < length ms) (w : DeviceWorld) where
+  gone_to : at_in (get_or ns i 0) (sent_more (get_or ms i 0)) (after_sent (sent_on (take i ns) ms) w) ≡ after_sent (sent_on (take (suc i) ns) ms) w
+  unfolding after_sent
+  gone_to =
+      ap (λ (ins : ℕ → Option InStream). record w { ins = ins })
+      (fun_ext
+      (λ k.
+      gone_on (get_or ms i 0) (sent_on (take i ns) ms k) (k == get_or ns i 0) (w.ins k)
+      (λ here. ap (sent_on (take i ns) ms) (same_number k (get_or ns i 0) here) ∙ none_before i ns ms once one)
+      ∙ ap (λ (m : ℕ). option_map (sent_more m) (w.ins k)) (sent_to i k ns ms once one many)))
+
+  still_there : SentAreThere (sent_on ns ms) w
+      → IfSome ((after_sent (sent_on (take i ns) ms) w).ins (get_or ns i 0)) (λ s. get_or ms i 0 ≤ in_level s)
+  unfolding after_sent
+  still_there there =
+      let n : ℕ = get_or ns i 0 in
+      subst (λ (in_ : Option InStream). IfSome in_ (λ s. get_or ms i 0 ≤ in_level s))
+      (sym (ap (λ (m : ℕ). option_map (sent_more m) (w.ins n)) (none_before i ns ms once one) ∙ none_gone (w.ins n)))
+      (subst (λ (m : ℕ). IfSome (w.ins n) (λ s. m ≤ in_level s)) (sent_there i ns ms once one many) (there n))
+
+  -- those of one interface more are gone
+  pub one_dropped : (n m : ℕ) (before after : devices.DeviceFields) → n ≡ get_or ns i 0 → m ≡ get_or ms i 0 → SentAreThere (sent_on ns ms) w
+      → devices.DeviceStands before (after_sent (sent_on (take i ns) ms) w)
+      → ((v : DeviceWorld) → devices.DeviceStands before v → IfSome (v.ins n) (λ s. m ≤ in_level s) → devices.DeviceStands after (at_in n (sent_more m) v))
+      → devices.DeviceStands after (after_sent (sent_on (take (i + 1) ns) ms) w)
+  one_dropped n m before after which number there stands drops =
+      let now : DeviceWorld = after_sent (sent_on (take i ns) ms) w in
+      let enough : IfSome (now.ins n) (λ s. m ≤ in_level s) =
+      subst (λ (x : ℕ). IfSome (now.ins n) (λ s. x ≤ in_level s)) (sym number)
+      (subst (λ (k : ℕ). IfSome (now.ins k) (λ s. get_or ms i 0 ≤ in_level s)) (sym which) (still_there there)) in
+      subst (devices.DeviceStands after)
+      (ap (λ (k : ℕ). at_in k (sent_more m) now) which
+      ∙ ap (λ (x : ℕ). at_in (get_or ns i 0) (sent_more x) now) number
+      ∙ gone_to
+      ∙ ap (λ (k : ℕ). after_sent (sent_on (take k ns) ms) w) (sym (add-one i))) (drops now stands enough)
+
+-- where there are no more, these are all
+sent_past : (i k : ℕ) (ns ms : List ℕ) → min (length ns) (length ms) ≤ i → sent_on (take i ns) ms k ≡ sent_on ns ms k
+unfolding sent_on
+sent_past zero k [] ms past = refl
+sent_past (suc i) k [] ms past = refl
+sent_past zero k (n ∷ ns) [] past = refl
+sent_past (suc i) k (n ∷ ns) [] past = refl
+sent_past zero k (n ∷ ns) (m ∷ ms) past = absurd (omega (arith, past))
+sent_past (suc i) k (n ∷ ns) (m ∷ ms) past = ap (λ (rest : ℕ). if k == n then m else rest) (sent_past i k ns ms (omega (arith, past)))
+
+pub all_dropped : (i : ℕ) (ns ms : List ℕ) (d : devices.DeviceFields) (w : DeviceWorld) → min (length ns) (length ms) ≤ i
+    → devices.DeviceStands d (after_sent (sent_on (take i ns) ms) w) → devices.DeviceStands d (after_sent (sent_on ns ms) w)
+all_dropped i ns ms d w past stands =
+    subst (λ (sent : ℕ → ℕ). devices.DeviceStands d (after_sent sent w)) (fun_ext (λ k. sent_past i k ns ms past)) stands
 
 -- where there is no interface, none are
-none_sent : (sent : ℕ) (w : DeviceWorld) → w ≡ after_sent (sent_on [] sent) w
+none_sent : (ms : List ℕ) (w : DeviceWorld) → w ≡ after_sent (sent_on [] ms) w
 unfolding after_sent sent_on
-none_sent sent w = ap (λ (ins : ℕ → Option InStream). record w { ins = ins }) (fun_ext (λ k. sym (none_gone (w.ins k))))
+none_sent ms w = ap (λ (ins : ℕ → Option InStream). record w { ins = ins }) (fun_ext (λ k. sym (none_gone (w.ins k))))
 
--- and otherwise those of the first one
-first_sent : (n sent : ℕ) (ns : List ℕ) (w : DeviceWorld) → at_in n (sent_more sent) w ≡ after_sent (sent_on (n ∷ ns) sent) w
-unfolding after_sent sent_on
-first_sent n sent ns w = ap (λ (ins : ℕ → Option InStream). record w { ins = ins }) (fun_ext (λ k. gone_on sent (k == n) (w.ins k)))
-
-first_is_there : (n sent : ℕ) (ns : List ℕ) (w : DeviceWorld) → SentAreThere (sent_on (n ∷ ns) sent) w → IfSome (w.ins n) (λ i. sent ≤ in_level i)
-unfolding sent_on
-first_is_there n sent ns w there =
-    subst (λ (b : Bool). IfSome (w.ins n) (λ i. (if b then sent else 0) ≤ in_level i)) (eq-eqb n n refl) (there n)
-
-pub none_dropped : (ns : List ℕ) (sent : ℕ) (d : devices.DeviceFields) (w : DeviceWorld) → ns ≡ [] → devices.DeviceStands d w
-    → devices.DeviceStands d (after_sent (sent_on ns sent) w)
-none_dropped ns sent d w none stands =
-    subst (devices.DeviceStands d) (none_sent sent w ∙ ap (λ (ms : List ℕ). after_sent (sent_on ms sent) w) (sym none)) stands
-
-pub first_dropped : (ns : List ℕ) (n sent : ℕ) (d : devices.DeviceFields) (w : DeviceWorld) → ns ≡ n ∷ drop 1 ns → SentAreThere (sent_on ns sent) w
-    → (IfSome (w.ins n) (λ i. sent ≤ in_level i) → devices.DeviceStands d (at_in n (sent_more sent) w))
-    → devices.DeviceStands d (after_sent (sent_on ns sent) w)
-first_dropped ns n sent d w first there drops =
-    let own = first_is_there n sent (drop 1 ns) w (subst (λ (ms : List ℕ). SentAreThere (sent_on ms sent) w) first there) in
-    subst (devices.DeviceStands d)
-    (first_sent n sent (drop 1 ns) w ∙ ap (λ (ms : List ℕ). after_sent (sent_on ms sent) w) (sym first)) (drops own)
+pub none_dropped : (ms : List ℕ) (d : devices.DeviceFields) (w : DeviceWorld) → devices.DeviceStands d w
+    → devices.DeviceStands d (after_sent (sent_on [] ms) w)
+none_dropped ms d w stands = subst (devices.DeviceStands d) (none_sent ms w) stands
 
 -- ---- reports
 

@@ -1,5 +1,5 @@
 -- What the packets, the ends and the reports of a microframe make of streams before ticks that wait, they make of them behind these.
-use Rattle.std.proofs.Common.{◌≡◌, ◌∙◌, sym, refl, ap, subst, arith, ℕ, zero, suc, ◌+◌, ◌<◌, ◌≤◌, ◌==◌, ◌&&◌, ◌||◌, not, nat_eq, Bool, true, false, cond, if◌then◌else◌, List, [], ◌∷◌, ◌++◌, filter, length, Option, Some, None, is_some}
+use Rattle.std.proofs.Common.{◌≡◌, ◌∙◌, sym, refl, ap, subst, arith, ℕ, zero, suc, ◌+◌, ◌<◌, ◌≤◌, ◌==◌, ◌&&◌, ◌||◌, not, nat_eq, Bool, true, false, cond, if◌then◌else◌, List, [], ◌∷◌, ◌++◌, filter, length, replicate, Option, Some, None, is_some}
 use Rattle.std.specs.Prelude.{IfSome}
 use Rattle.std.specs.List.{AllByRecursion, IsDistinct, list_all, range_with_len}
 use Rattle.std.specs.Option.{option_map_or}
@@ -15,14 +15,14 @@ use Rattle.uac_flow.proofs.FlowWaitsLemmas.{packet_arrives}
 use Rattle.uac_device.specs.DeviceWorld.{DeviceWorld, after_end, after_receiving, after_sending_in_packet, arrival_in, feedback_in, is_due_in}
 use Rattle.uac_device.specs.DeviceTicks.{Tones}
 use Rattle.uac_device.specs.DeviceWaits.{AreSteady, HaveSent, TakesAll, frames_later_in, frames_waiting, settled, takes_in, with_sent}
-use Rattle.uac_device.proofs.DeviceWaitsLemmas.{arrival_settled, due_settled, end_settled, end_steady, receiving_settled, receiving_steady, sending_settled}
+use Rattle.uac_device.proofs.DeviceWaitsLemmas.{arrival_settled, due_settled, end_settled, end_steady, receiving_settled, receiving_steady, same_number, sending_settled}
 use Rattle.uac_device.proofs.DeviceWaitsTicksLemmas.{end_have_sent, function_settled, receiving_have_sent, sending_have_sent}
 use Rattle.uac_host.specs.HostCalls.{after_host_packet, packet_of, size_of}
 use Rattle.uac_script.specs.Phrase.{PhraseMark}
 use Rattle.uac_transcript.specs.Transcript.{Said}
 use Rattle.uac_streaming.specs.Telling.{Telling, without_event, in_turn, telling_after}
-use Rattle.uac_streaming.specs.StreamingWorld.{StreamingWorld, after_arrival, all_ends, all_feedback, counted_at, end_turn, feedback_lines, feedback_made, feedback_turn, fetched_lines, goes_out, in_packet_turn, in_packets, inward_turn, is_in_due, is_out_due, loses_feedback, numbers, numbers_in, numbers_out, out_lines, out_packets, out_turn, over_lines, packet_fetched, packet_sent_out, sent_out_lines}
-use Rattle.uac_streaming.specs.StreamingWaits.{LosesNoPacket, after_reports_of, fits, sent_after, sent_on, streams_settled, with_device}
+use Rattle.uac_streaming.specs.StreamingWorld.{StreamingWorld, after_arrival, all_ends, all_feedback, comes_in, counted_at, end_turn, feedback_lines, feedback_made, feedback_turn, fetched_lines, goes_out, in_packet_turn, in_packets, inward_turn, is_in_due, is_out_due, loses_feedback, numbers, numbers_in, numbers_out, out_lines, out_packets, out_turn, over_lines, packet_fetched, packet_sent_out, sent_out_lines}
+use Rattle.uac_streaming.specs.StreamingWaits.{LosesNoPacket, after_reports_of, fits, one_sent_after, sent_after, sent_on, streams_settled, with_device}
 use Rattle.uac_streaming.proofs.AmongLemmas.{kept_distinct}
 use Rattle.uac_streaming.proofs.StreamingWorldLemmas.{in_packets_are}
 
@@ -382,92 +382,154 @@ outs_keep f keeps w =
 
 -- ---- packets from the device
 
--- the first alone has sent them
-more_sent : (k : ℕ) (ks : List ℕ) (more m : ℕ) → with_sent k more (sent_on (k ∷ ks) m) ≡ sent_on (k ∷ ks) (m + more)
-unfolding sent_on
-more_sent k ks more m = fun_ext (λ j. by (j == k))
-  where
-    by : (b : Bool) → (if b then (if b then m else 0) + more else if b then m else 0) ≡ (if b then m + more else 0)
-    by true = refl
-    by false = refl
-
-frames_of_first : (k : ℕ) (ks : List ℕ) (n m : ℕ) (w : DeviceWorld) → frames_waiting n (sent_on (k ∷ ks) m) w k ≡ frames_later_in w k n m
-unfolding sent_on
-frames_of_first k ks n m w = ap (λ (b : Bool). frames_later_in w k n (if b then m else 0)) (eq-eqb k k refl)
-
-first_sent : (k : ℕ) (ks : List ℕ) (n m : ℕ) (w : DeviceWorld)
-    → with_sent k (frames_waiting n (sent_on (k ∷ ks) m) w k) (sent_on (k ∷ ks) m) ≡ sent_on (k ∷ ks) (m + frames_later_in w k n m)
-first_sent k ks n m w =
-    ap (λ (more : ℕ). with_sent k more (sent_on (k ∷ ks) m)) (frames_of_first k ks n m w) ∙ more_sent k ks (frames_later_in w k n m) m
-
-none_sent : (m l : ℕ) → sent_on [] m ≡ sent_on [] l
-unfolding sent_on
-none_sent m l = fun_ext (λ k. refl)
-
 -- what is told of an interface's packet from the device that isn't lost
 abbrev in_told : ℕ → StreamingWorld → Telling StreamingWorld
 in_told k w = record { lines = fetched_lines 0 false k w; world = packet_fetched false k w }
 
-in_told_waits : (domain : ℕ) (tones : Tones) (n m k : ℕ) (w : StreamingWorld) → AreSteady domain n w.device
-    → in_told k (streams_settled domain tones n (sent_on (k ∷ []) m) w)
-    ≡ without_event (streams_settled domain tones n (sent_on (k ∷ []) (m + frames_later_in w.device k n m)) w)
+in_told_waits : (domain : ℕ) (tones : Tones) (n k : ℕ) (sent : ℕ → ℕ) (w : StreamingWorld) → AreSteady domain n w.device
+    → in_told k (streams_settled domain tones n sent w)
+    ≡ without_event (streams_settled domain tones n (with_sent k (frames_waiting n sent w.device k) sent) w)
 unfolding packet_fetched
-in_told_waits domain tones n m k w steady =
+in_told_waits domain tones n k sent w steady =
     ap {B = Telling StreamingWorld} (λ (met : ℕ → StreamCounts). record {
       lines = [];
-      world = record w { device = after_sending_in_packet k (settled domain tones n (sent_on (k ∷ []) m) w.device); met = met };
+      world = record w { device = after_sending_in_packet k (settled domain tones n sent w.device); met = met };
     }) (none_counted k w.met)
-    ∙ ap (λ (d : DeviceWorld). without_event (with_device d w))
-    (sending_settled domain tones n (sent_on (k ∷ []) m) w.device k steady
-    ∙ ap (λ (sent : ℕ → ℕ). settled domain tones n sent w.device) (first_sent k [] n m w.device))
+    ∙ ap (λ (d : DeviceWorld). without_event (with_device d w)) (sending_settled domain tones n sent w.device k steady)
 
-in_waits : (domain : ℕ) (tones : Tones) (n m k : ℕ) (w : StreamingWorld) → AreSteady domain n w.device
-    → inward_turn 0 [] k (streams_settled domain tones n (sent_on (k ∷ []) m) w)
-    ≡ without_event (streams_settled domain tones n (sent_on (k ∷ []) (sent_after (k ∷ []) n m w.device)) w)
-unfolding inward_turn sent_after
-in_waits domain tones n m k w steady =
+-- by interface, how many frames are sent after the packet of one, where that is due
+abbrev sent_with : ℕ → ℕ → (ℕ → ℕ) → DeviceWorld → ℕ → ℕ
+sent_with n k sent w = if is_due_in w k then with_sent k (frames_waiting n sent w k) sent else sent
+
+-- and after those of all these
+abbrev sent_with_all : ℕ → List ℕ → (ℕ → ℕ) → DeviceWorld → ℕ → ℕ
+sent_with_all n [] sent w = sent
+sent_with_all n (k ∷ ks) sent w = sent_with_all n ks (sent_with n k sent w) w
+
+in_waits : (domain : ℕ) (tones : Tones) (n k : ℕ) (sent : ℕ → ℕ) (w : StreamingWorld) → AreSteady domain n w.device
+    → inward_turn 0 [] k (streams_settled domain tones n sent w) ≡ without_event (streams_settled domain tones n (sent_with n k sent w.device) w)
+unfolding inward_turn
+in_waits domain tones n k sent w steady =
     ap
-    (λ (b : Bool).
-    if b then in_told k (streams_settled domain tones n (sent_on (k ∷ []) m) w) else without_event (streams_settled domain tones n (sent_on (k ∷ []) m) w))
-    (due_settled domain tones n (sent_on (k ∷ []) m) w.device k)
+    (λ (b : Bool). if b then in_told k (streams_settled domain tones n sent w) else without_event (streams_settled domain tones n sent w))
+    (due_settled domain tones n sent w.device k)
     ∙ by (is_due_in w.device k)
   where
     by : (b : Bool)
-        → (if b then in_told k (streams_settled domain tones n (sent_on (k ∷ []) m) w)
-        else without_event (streams_settled domain tones n (sent_on (k ∷ []) m) w))
-        ≡ without_event (streams_settled domain tones n (sent_on (k ∷ []) (if b then m + frames_later_in w.device k n m else m)) w)
-    by true = in_told_waits domain tones n m k w steady
+        → (if b then in_told k (streams_settled domain tones n sent w) else without_event (streams_settled domain tones n sent w))
+        ≡ without_event (streams_settled domain tones n (if b then with_sent k (frames_waiting n sent w.device k) sent else sent) w)
+    by true = in_told_waits domain tones n k sent w steady
     by false = refl
 
-ins_turn : (domain : ℕ) (tones : Tones) (n m : ℕ) (ns : List ℕ) (w : StreamingWorld) → AreSteady domain n w.device → length ns ≤ 1
-    → in_turn (inward_turn 0 []) ns (streams_settled domain tones n (sent_on ns m) w)
-    ≡ without_event (streams_settled domain tones n (sent_on ns (sent_after ns n m w.device)) w)
+ins_turn : (domain : ℕ) (tones : Tones) (n : ℕ) (ns : List ℕ) (sent : ℕ → ℕ) (w : StreamingWorld) → AreSteady domain n w.device
+    → in_turn (inward_turn 0 []) ns (streams_settled domain tones n sent w)
+    ≡ without_event (streams_settled domain tones n (sent_with_all n ns sent w.device) w)
 unfolding in_turn
-ins_turn domain tones n m [] w steady one =
-    ap (λ (sent : ℕ → ℕ). without_event (streams_settled domain tones n sent w)) (none_sent m (sent_after [] n m w.device))
-ins_turn domain tones n m (k ∷ []) w steady one =
-    ap (λ (told : Telling StreamingWorld). telling_after told.lines (without_event told.world)) (in_waits domain tones n m k w steady)
-ins_turn domain tones n m (k ∷ j ∷ ns) w steady one = absurd (omega (arith, one))
+ins_turn domain tones n [] sent w steady = refl
+ins_turn domain tones n (k ∷ ks) sent w steady =
+    ap (λ (told : Telling StreamingWorld). telling_after told.lines (in_turn (inward_turn 0 []) ks told.world)) (in_waits domain tones n k sent w steady)
+    ∙ ap (telling_after []) (ins_turn domain tones n ks (sent_with n k sent w.device) w steady)
 
-pub ins_wait : (domain : ℕ) (tones : Tones) (n sent : ℕ) (w : StreamingWorld) → AreSteady domain n w.device → length (numbers_in w.device.function) ≤ 1
+-- at another interface as many are sent as before
+other_sent : (n k j : ℕ) (sent : ℕ → ℕ) (w : DeviceWorld) → (j == k) ≡ false → sent_with n k sent w j ≡ sent j
+other_sent n k j sent w other = by (is_due_in w k)
+  where
+    by : (due : Bool) → (if due then with_sent k (frames_waiting n sent w k) sent else sent) j ≡ sent j
+    by true = ap (λ (here : Bool). if here then sent j + frames_waiting n sent w k else sent j) other
+    by false = refl
+
+others_sent : (n j : ℕ) (ns : List ℕ) (sent : ℕ → ℕ) (w : DeviceWorld) → AllByRecursion (λ k. nat_eq j k ≡ false) ns → sent_with_all n ns sent w j ≡ sent j
+others_sent n j [] sent w apart = refl
+others_sent n j (k ∷ ks) sent w apart = others_sent n j ks (sent_with n k sent w) w apart.1 ∙ other_sent n k j sent w apart.0
+
+-- and at its own those of the packet more
+own_sent : (n k m : ℕ) (sent : ℕ → ℕ) (w : DeviceWorld) → sent k ≡ m → sent_with n k sent w k ≡ one_sent_after k n m w
+own_sent n k m sent w is = by (is_due_in w k)
+  where
+    by : (due : Bool) → (if due then with_sent k (frames_waiting n sent w k) sent else sent) k ≡ (if due then m + frames_later_in w k n m else m)
+    by true =
+        ap (λ (here : Bool). if here then sent k + frames_waiting n sent w k else sent k) (eq-eqb k k refl)
+        ∙ ap (λ (x : ℕ). x + frames_later_in w k n x) is
+    by false = is
+
+-- so after the packets of all these interfaces, the numbers by interface are those of the list
+all_sent : (n j : ℕ) (ns ms : List ℕ) (sent : ℕ → ℕ) (w : DeviceWorld) → IsDistinct nat_eq ns → length ns ≤ length ms → sent j ≡ sent_on ns ms j
+    → sent_with_all n ns sent w j ≡ sent_on ns (sent_after ns n ms w) j
+unfolding sent_on sent_after
+all_sent n j [] ms sent w once long is = is
+all_sent n j (k ∷ ks) [] sent w once long is = absurd (omega (arith, long))
+all_sent n j (k ∷ ks) (m ∷ ms) sent w once long is =
+    by (j == k) refl is (all_sent n j ks ms (sent_with n k sent w) w (IsDistinct-tail nat_eq k ks once) (omega (arith, long)))
+  where
+    by : (here : Bool) → (j == k) ≡ here → sent j ≡ (if here then m else sent_on ks ms j)
+        → (sent_with n k sent w j ≡ sent_on ks ms j → sent_with_all n ks (sent_with n k sent w) w j ≡ sent_on ks (sent_after ks n ms w) j)
+        → sent_with_all n ks (sent_with n k sent w) w j ≡ (if here then one_sent_after k n m w else sent_on ks (sent_after ks n ms w) j)
+    by true here own others =
+        let same : j ≡ k = same_number j k here in
+        subst (λ (i : ℕ). sent_with_all n ks (sent_with n k sent w) w i ≡ one_sent_after k n m w) (sym same)
+        (others_sent n k ks (sent_with n k sent w) w (IsDistinct-head nat_eq k ks once) ∙ own_sent n k m sent w (ap sent (sym same) ∙ own))
+    by false other rest others = others (other_sent n k j sent w other ∙ rest)
+
+pub ins_once : (function : FunctionFields) → IsDistinct nat_eq (numbers_in function)
+ins_once function = kept_distinct (comes_in function) (numbers function) (numbers_once function)
+
+sent_of_ins : (n : ℕ) (sent : List ℕ) (w : DeviceWorld) → length (numbers_in w.function) ≤ length sent
+    → sent_with_all n (numbers_in w.function) (sent_on (numbers_in w.function) sent) w
+    ≡ sent_on (numbers_in w.function) (sent_after (numbers_in w.function) n sent w)
+sent_of_ins n sent w long =
+    fun_ext (λ j. all_sent n j (numbers_in w.function) sent (sent_on (numbers_in w.function) sent) w (ins_once w.function) long refl)
+
+pub ins_wait : (domain : ℕ) (tones : Tones) (n : ℕ) (sent : List ℕ) (w : StreamingWorld) → AreSteady domain n w.device
+    → length (numbers_in w.device.function) ≤ length sent
     → in_packets 0 [] (streams_settled domain tones n (sent_on (numbers_in w.device.function) sent) w)
     ≡ without_event
     (streams_settled domain tones n (sent_on (numbers_in w.device.function) (sent_after (numbers_in w.device.function) n sent w.device)) w)
-ins_wait domain tones n sent w steady one =
+ins_wait domain tones n sent w steady long =
     let ns : List ℕ = numbers_in w.device.function in
     sym (in_packets_are 0 [] (streams_settled domain tones n (sent_on ns sent) w) ns
     (sym (ap numbers_in (function_settled domain tones n (sent_on ns sent) w.device))))
-    ∙ ins_turn domain tones n sent ns w steady one
+    ∙ ins_turn domain tones n ns (sent_on ns sent) w steady
+    ∙ ap (λ (by_interface : ℕ → ℕ). without_event (streams_settled domain tones n by_interface w)) (sent_of_ins n sent w.device long)
 
-ins_sent : (n m : ℕ) (ns : List ℕ) (w : DeviceWorld) → HaveSent n (sent_on ns m) w → HaveSent n (sent_on ns (sent_after ns n m w)) w
-unfolding sent_after
-ins_sent n m [] w have = subst (λ (sent : ℕ → ℕ). HaveSent n sent w) (none_sent m (sent_after [] n m w)) have
-ins_sent n m (k ∷ ks) w have = by (is_due_in w k)
+with_have_sent : (n k : ℕ) (sent : ℕ → ℕ) (w : DeviceWorld) → HaveSent n sent w → HaveSent n (sent_with n k sent w) w
+with_have_sent n k sent w have = by (is_due_in w k)
   where
-    by : (b : Bool) → HaveSent n (sent_on (k ∷ ks) (if b then m + frames_later_in w k n m else m)) w
-    by true = subst (λ (sent : ℕ → ℕ). HaveSent n sent w) (first_sent k ks n m w) (sending_have_sent n (sent_on (k ∷ ks) m) w k have)
+    by : (due : Bool) → HaveSent n (if due then with_sent k (frames_waiting n sent w k) sent else sent) w
+    by true = sending_have_sent n sent w k have
     by false = have
 
-pub ins_have_sent : (n sent : ℕ) (w : DeviceWorld) → HaveSent n (sent_on (numbers_in w.function) sent) w
+all_have_sent : (n : ℕ) (ns : List ℕ) (sent : ℕ → ℕ) (w : DeviceWorld) → HaveSent n sent w → HaveSent n (sent_with_all n ns sent w) w
+all_have_sent n [] sent w have = have
+all_have_sent n (k ∷ ks) sent w have = all_have_sent n ks (sent_with n k sent w) w (with_have_sent n k sent w have)
+
+pub ins_have_sent : (n : ℕ) (sent : List ℕ) (w : DeviceWorld) → length (numbers_in w.function) ≤ length sent
+    → HaveSent n (sent_on (numbers_in w.function) sent) w
     → HaveSent n (sent_on (numbers_in w.function) (sent_after (numbers_in w.function) n sent w)) w
-ins_have_sent n sent w have = ins_sent n sent (numbers_in w.function) w have
+ins_have_sent n sent w long have =
+    subst (λ (by_interface : ℕ → ℕ). HaveSent n by_interface w) (sent_of_ins n sent w long)
+    (all_have_sent n (numbers_in w.function) (sent_on (numbers_in w.function) sent) w have)
+
+-- ---- the numbers of a list
+
+-- of no interface was any frame sent
+abbrev pub none_of : ℕ → ℕ
+none_of k = 0
+
+none_sent_at : (ns : List ℕ) (m k : ℕ) → sent_on ns (replicate m 0) k ≡ none_of k
+unfolding sent_on
+none_sent_at [] m k = refl
+none_sent_at (n ∷ ns) zero k = refl
+none_sent_at (n ∷ ns) (suc m) k = by (k == n) (none_sent_at ns m k)
+  where
+    by : (here : Bool) → sent_on ns (replicate m 0) k ≡ 0 → (if here then 0 else sent_on ns (replicate m 0) k) ≡ 0
+    by true rest = refl
+    by false rest = rest
+
+pub none_sent_on : (ns : List ℕ) (m : ℕ) → sent_on ns (replicate m 0) ≡ none_of
+none_sent_on ns m = fun_ext (λ k. none_sent_at ns m k)
+
+pub sent_length : (ns : List ℕ) (n : ℕ) (sent : List ℕ) (w : DeviceWorld) → length ns ≤ length sent → length (sent_after ns n sent w) ≡ length sent
+unfolding sent_after
+sent_length [] n sent w long = refl
+sent_length (k ∷ ks) n [] w long = refl
+sent_length (k ∷ ks) n (m ∷ ms) w long = ap suc (sent_length ks n ms w (omega (arith, long)))

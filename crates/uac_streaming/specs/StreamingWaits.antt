@@ -20,15 +20,21 @@ streams_settled domain tones n sent w = with_device (settled domain tones n sent
 abbrev pub fits : StreamingWorld → ℕ → Bool
 fits w interface = not (is_due_in w.device interface) || takes_in w.device interface (packet_of w.host interface)
 
--- of the first of these interfaces so many frames were sent
-unfoldable pub sent_on : List ℕ → ℕ → ℕ → ℕ
+-- by interface, how many of its frames were sent: of each of these interfaces the number at its place in a list
+unfoldable pub sent_on : List ℕ → List ℕ → ℕ → ℕ
 sent_on [] sent k = 0
-sent_on (n ∷ ns) sent k = if k == n then sent else 0
+sent_on (n ∷ ns) [] k = 0
+sent_on (n ∷ ns) (m ∷ sent) k = if k == n then m else sent_on ns sent k
 
--- so many are sent when it had its packet from the device, where that is due, while so many ticks wait
-unfoldable pub sent_after : List ℕ → ℕ → ℕ → DeviceWorld → ℕ
+-- so many are sent of an interface when it had its packet from the device, where that is due, while so many ticks wait
+abbrev pub one_sent_after : ℕ → ℕ → ℕ → DeviceWorld → ℕ
+one_sent_after n ticks m w = if is_due_in w n then m + frames_later_in w n ticks m else m
+
+-- and of each of these interfaces
+unfoldable pub sent_after : List ℕ → ℕ → List ℕ → DeviceWorld → List ℕ
 sent_after [] ticks sent w = sent
-sent_after (n ∷ ns) ticks sent w = if is_due_in w n then sent + frames_later_in w n ticks sent else sent
+sent_after (n ∷ ns) ticks [] w = []
+sent_after (n ∷ ns) ticks (m ∷ sent) w = one_sent_after n ticks m w ∷ sent_after ns ticks sent w
 
 -- no packet is lost where these marks tell what is, but perhaps feedback reports are
 pub record LosesNoPacket (marks : List PhraseMark) : Type 0 where

@@ -1,6 +1,7 @@
 // The packets and reports of a microframe while the device's ticks wait.
-ghost use Rattle.std.specs.Prelude.{◌≡◌, ◌≤◌, ◌<◌, ◌+◌, nat_le, ℕ, length, map};
-ghost use Rattle.std.specs.List.{list_all};
+ghost use Rattle.std.specs.Prelude.{◌≡◌, ◌≤◌, ◌<◌, ◌+◌, ◌↔◌, IsTrue, nat_le, ℕ, length, map};
+ghost use Rattle.std.specs.List.{All, list_all};
+ghost use Rattle.uac_host.specs.HostFields.{GivesSilence};
 ghost use Rattle.uac_script.specs.Line.{phrase_mark};
 ghost use Rattle.uac_device.specs.DeviceKept as devices;
 ghost use Rattle.uac_device.specs.DeviceWorld.{DeviceWorld, feedback_in};
@@ -16,12 +17,19 @@ use uac_device::Device;
 use uac_script::{Mark, loses_feedback};
 
 impl Streaming {
-    /// Whether at most one interface carries a stream from the device.
-    pub fn has_one_in(&self) -> bool
+    /// Whether at most eight interfaces carry a stream from the device.
+    pub fn has_few_ins(&self) -> bool
         ensures { (d : devices.DeviceFields) (w : StreamingWorld) → StreamingStands self.now d w
-            → result ≡ nat_le (length (numbers_in w.device.function)) 1 }
+            → result ≡ nat_le (length (numbers_in w.device.function)) 8 }
     {
-        self.ins.len() <= 1
+        self.ins.len() <= 8
+    }
+
+    /// Whether the host gives silence on every interface: no frames wait, and its tones are silent.
+    pub fn is_silent(&self) -> bool
+        ensures { IsTrue result ↔ All (λ l. GivesSilence l.track) self.now.host }
+    {
+        self.host.is_silent()
     }
 
     /// Whether all packets to the device of the next microframe fit its rings.
@@ -41,30 +49,29 @@ impl Streaming {
         !device.due(interface) || device.takes(interface, self.host.bytes(interface))
     }
 
-    /// How many frames are sent after the packet of the first interface from the device, where that is due, when so many ticks wait and so
-    /// many frames were sent before it.
-    pub fn sent_after(&self, device: &Device, ticks: u32, sent: u32) -> u32
+    /// Makes each number that of the frames that are sent after the packets of a microframe, when so many ticks wait and so many frames
+    /// were sent before it: the first is that of the first interface from the device, and so on.
+    pub fn send_later(&self, device: &Device, ticks: u32, sent: &mut [u32])
         requires ticks { ticks ≤ 128 }
-        requires sent { sent ≤ 2176 }
+        requires sent { All (λ m. m ≤ 2176) sent.old }
         ensures sent { (w : StreamingWorld) → StreamingStands self.now device.now w
-            → result ≡ sent_after (numbers_in w.device.function) ticks sent w.device }
-        ensures few { result ≤ 2176 }
+            → sent.new ≡ sent_after (numbers_in w.device.function) ticks sent.old w.device }
+        ensures few { All (λ m. m ≤ 2176) sent.new }
     {
-        if self.ins.len() == 0 || !device.due(self.ins[0]) {
-            return sent;
+        for at in 0..self.ins.len().min(sent.len()) {
+            sent[at] = one_sent_after(device, self.ins[at], ticks, sent[at]);
         }
-        sent + device.frames_later(self.ins[0], ticks, sent)
     }
 
-    /// The frames that were sent of the first interface from the device are gone.
-    pub fn drop_sent(&self, device: &mut Device, sent: u32)
+    /// The frames that were sent of the interfaces from the device are gone: of the first one so many as the first number tells, and so on.
+    pub fn drop_sent(&self, device: &mut Device, sent: &[u32])
         ensures stands { (w : StreamingWorld) → StreamingStands self.now device.old w
-            → SentAreThere (sent_on (numbers_in w.device.function) sent) w.device
-            → devices.DeviceStands device.new (after_sent (sent_on (numbers_in w.device.function) sent) w.device) }
+            → SentAreThere (sent_on (numbers_in w.device.function) sent.now) w.device
+            → devices.DeviceStands device.new (after_sent (sent_on (numbers_in w.device.function) sent.now) w.device) }
         ensures function { device.new.function ≡ device.old.function }
     {
-        if self.ins.len() > 0 {
-            device.drop_sent(self.ins[0], sent);
+        for at in 0..self.ins.len().min(sent.len()) {
+            device.drop_sent(self.ins[at], sent[at]);
         }
     }
 
@@ -92,5 +99,20 @@ impl Streaming {
             let lost = loses_feedback(marks, interface);
             self.bring_feedback(device.function(), interface, value, lost);
         }
+    }
+}
+
+/// How many frames of an interface are sent after its packet, where that is due, when so many ticks wait and so many frames were sent before
+/// it.
+fn one_sent_after(device: &Device, interface: u8, ticks: u32, sent: u32) -> u32
+    requires ticks { ticks ≤ 128 }
+    requires sent { sent ≤ 2176 }
+    ensures sent { (w : DeviceWorld) → devices.DeviceStands device.now w → result ≡ spec.one_sent_after interface ticks sent w }
+    ensures few { result ≤ 2176 }
+{
+    if device.due(interface) {
+        sent + device.frames_later(interface, ticks, sent)
+    } else {
+        sent
     }
 }

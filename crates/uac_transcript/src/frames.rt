@@ -17,6 +17,17 @@ pub fn write_played<K: Sink>(sink: &mut K, terminal: u8, frame: &Frame) -> Resul
     write_samples(sink, b'p', terminal, frame)
 }
 
+/// Appends the line of the frame that an output jack played in a tick, for which there has to be room.
+#[tactic(auto, unfolding(crate::specs::Transcript::spelling_of))]
+#[inline]
+pub fn push_played<const N: usize>(text: &mut TextLine<N>, terminal: u8, frame: &Frame)
+    requires { length text.old + 727 ≤ N }
+    ensures text { text.new ≡ text.old ++ spelling_of (says_played terminal frame.now.items) }
+    ensures len { length text.new ≤ length text.old + 727 }
+{
+    push_frame(text, b'p', terminal, frame.as_slice());
+}
+
 /// Prints a frame that came from an interface.
 #[tactic(auto, unfolding(crate::specs::Transcript::spelling_of))]
 pub fn write_frame<K: Sink>(sink: &mut K, interface: u8, frame: &Frame) -> Result<(), Failed>
@@ -54,9 +65,9 @@ fn write_many<K: Sink>(sink: &mut K, start: u8, number: u8, samples: &[i32]) -> 
 
 #[inline]
 fn push_frame<const N: usize>(text: &mut TextLine<N>, start: u8, number: u8, samples: &[i32])
-    requires empty { text.old ≡ [] }
-    requires room { 23 + 22 * length samples.now ≤ N }
-    ensures { text.new ≡ frame_text (start ∷ codes " ") number samples.now }
+    requires { length text.old + 23 + 22 * length samples.now ≤ N }
+    ensures text { text.new ≡ text.old ++ frame_text (start ∷ codes " ") number samples.now }
+    ensures len { length text.new ≤ length text.old + 23 + 22 * length samples.now }
 {
     text.push_byte(start);
     text.push_byte(b' ');

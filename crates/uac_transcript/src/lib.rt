@@ -18,7 +18,7 @@ mod views;
 /// Words of several lines.
 mod pieces;
 
-pub use frames::{write_frame, write_played};
+pub use frames::{push_played, write_frame, write_played};
 pub use packets::{write_feedback, write_in, write_level, write_out, write_over, write_under};
 pub use pieces::{push_lost_or_ok, push_number_or_dash, push_stream};
 pub use report::{

@@ -24,7 +24,7 @@ write_jack-requires g c =
     subst (All (λ (j : OutputJack). is_output_jack (entity function.entities j.terminal) ≡ true)) (sym c.output_jacks-jack-items.ensures) (jacks_are function sound) in
     let clocks : All (λ (j : OutputJack). (entity function.entities j.terminal).clock ≡ j.domain) c.output_jacks-jack-items.result.now =
     subst (All (λ (j : OutputJack). (entity function.entities j.terminal).clock ≡ j.domain)) (sym c.output_jacks-jack-items.ensures) (jacks_clocked function sound) in
-    record { tick = c.requires; kind = kinds c.loop-jack.jack-index _ c.loop-jack-test.true; clock = clocks c.loop-jack.jack-index _ c.loop-jack-test.true }
+    record { kind = kinds c.loop-jack.jack-index _ c.loop-jack-test.true; clock = clocks c.loop-jack.jack-index _ c.loop-jack-test.true }
 
 pub returns-in_err-write_jack-clause-printed : goal.returns-in_err-write_jack-clause-printed
 returns-in_err-write_jack-clause-printed g c = λ w stands.

@@ -16,8 +16,8 @@ returns-then-is_silent c =
     record {
       stands = λ t even kept.
           (let view : the_view c.self.inside ≡ c.args.self.now = c.self.view_is in
-          let none : (the_view c.self.inside).samples ≡ [] = ap (λ (f : TrackFields). f.samples) view ∙ silent.0 in
-          let tone : (the_view c.self.inside).tone ≡ Silent = ap (λ (f : TrackFields). f.tone) view ∙ silent.1 in
+          let none : (the_view c.self.inside).samples ≡ [] = ap (λ (f : TrackFields). f.samples) view ∙ silent.samples in
+          let tone : (the_view c.self.inside).tone ≡ Silent = ap (λ (f : TrackFields). f.tone) view ∙ silent.tone in
           let both = silence_follows format.channels frames t (the_view c.self.inside) format.in_range.0 even (view ∙ kept) none tone in (
             c.fill_zeros.ensures
                 ∙ ap (λ (n : ℕ). replicate (frames * n) 0) c.frame_bytes.ensures

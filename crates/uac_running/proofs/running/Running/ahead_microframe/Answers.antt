@@ -59,6 +59,6 @@ returns-clause-tells g c r ahead =
     record { now = c.catch_up.ensures r ahead; room = ahead.room } in
     let told = c.in_ok-microframe.ensures.tells r done in (
       told.0,
-      none_ahead domain c.microframe.new.self showing (microframe marks r).world told.1
+      none_ahead domain c.none.result.ticks c.none.result.sent c.microframe.new.self showing (microframe marks r).world c.none.ensures.ticks c.none.ensures.sent told.1
           (microframe_lone marks domain r small ahead.room (lone_ahead domain c.args.ahead.ticks c.args.ahead.sent c.args.self.now shown r ahead)),
     )

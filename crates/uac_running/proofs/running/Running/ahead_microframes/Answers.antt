@@ -5,7 +5,7 @@ use Rattle.uac_running.specs.Ahead.{IsAhead}
 use Rattle.uac_running.specs.Events.{microframe, microframes}
 use Rattle.uac_running.proofs.TellingLemmas.{begun, finished, one_more_to, stopped}
 use Rattle.uac_running.proofs.EventsLemmas.{microframes_end, microframes_split}
-use Rattle.uac_running.proofs.AheadLemmas.{none_ahead}
+use Rattle.uac_running.proofs.AheadLemmas.{none_ahead, none_are_few}
 use Rattle.uac_transcript.proofs.PrintingLemmas.{Tells-handed_on}
 use Rattle.uac_running.proofs.running.Running.ahead_microframes.Goals as goal
 
@@ -14,10 +14,10 @@ loop-passed-init g c = record {
   told = λ r stands lone.
       let marks = map phrase_mark c.args.marks.now in
       let shown = readings (λ v x. (goal.Meter-dyn g (v, x)).reading_of x) c.args.meters.now in
-      begun (IsAhead c.args.domain 0 0) (microframes marks c.args.count r) (microframes marks (c.args.count - 0)) c.args.self.now shown (g.K.Sink.written c.args.sink.now) r
-      (none_ahead c.args.domain c.args.self.now shown r stands lone) (ap (λ n. microframes marks n r) (omega arith));
-  ticks = omega arith;
-  sent = omega arith;
+      begun (IsAhead c.args.domain c.none-ahead.result.ticks c.none-ahead.result.sent) (microframes marks c.args.count r) (microframes marks (c.args.count - 0)) c.args.self.now shown (g.K.Sink.written c.args.sink.now) r
+      (none_ahead c.args.domain c.none-ahead.result.ticks c.none-ahead.result.sent c.args.self.now shown r c.none-ahead.ensures.ticks c.none-ahead.ensures.sent stands lone) (ap (λ n. microframes marks n r) (omega arith));
+  ticks = omega (arith, c.none-ahead.ensures.ticks);
+  sent = none_are_few 8 c.none-ahead.result.sent c.none-ahead.ensures.sent;
   faultless = refl;
 }
 

@@ -1,4 +1,5 @@
 use Rattle.std.proofs.Common.{◌≡◌, ◌-◌, ◌≤◌, map}
+use Rattle.std.specs.List.{All}
 use Rattle.uac_script.specs.Line.{phrase_mark}
 use Rattle.uac_units.specs.MeterReadings.{readings}
 use Rattle.uac_running.specs.RunningWorld.{RunningWorld}
@@ -15,6 +16,6 @@ invariant-loop-passed g l = record {
       → SoFar (IsAhead l.domain l.ahead.ticks l.ahead.sent) (microframes (map phrase_mark l.marks) l.count r) (microframes (map phrase_mark l.marks) (l.count - l._passed)) l.self
       (readings (λ v x. (goal.Meter-dyn g (v, x)).reading_of x) l.meters) (g.K.Sink.written l.fn.sink) (g.K.Sink.written l.sink);
   ticks : l.ahead.ticks ≤ 128;
-  sent : l.ahead.sent ≤ 2176;
+  sent : All (λ m. m ≤ 2176) l.ahead.sent;
   faultless : g.K.Sink.faults l.sink ≡ g.K.Sink.faults l.fn.sink;
 }

@@ -20,5 +20,5 @@ invariant_of-self c =
 pub returns : goal.returns
 returns c meters r stands there =
     let own = subst (λ (p : RunningFields). RunningStands p meters r) (sym c.self.view_is) stands in
-    sent_gone meters r (the_view c.self.inside) _ own (sent_of c.args.sent r) (c.drop_sent.ensures.stands (streaming_of r) own.streaming there)
+    sent_gone meters r (the_view c.self.inside) _ own (sent_of c.args.sent.now r) (c.drop_sent.ensures.stands (streaming_of r) own.streaming there)
     refl refl refl refl refl refl (record { view = refl; configuration = refl; breaks = refl })

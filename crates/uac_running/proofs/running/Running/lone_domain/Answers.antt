@@ -12,9 +12,9 @@ returns-in-len1-clause-lone c = λ meters r stands.
     record {
       detail = omega (arith, own.detail, c.if-self-ge1.false);
       only =
-          sym (c.domains.ensures ∙ ap (λ (f : FunctionFields). f.domains) (c.function-function.ensures ∙ own.streaming.device.function))
+          sym (c.domains.ensures ∙ ap (λ (f : FunctionFields). f.domains) (c.function.ensures ∙ own.streaming.device.function))
           ∙ only_one c.domains.result.now c.in-len1.len_at_least c.in-len1.len_below;
-      one = leb-true _ _ (sym (c.has_one_in.ensures c.self.inside.device (streaming_of r) own.streaming) ∙ c.if-not-has_one_in.false);
+      few = leb-true _ _ (sym (c.has_few_ins.ensures c.self.inside.device (streaming_of r) own.streaming) ∙ c.if-not-has_few_ins.false);
     }
 
 pub returns-in-len1-clause-packets : goal.returns-in-len1-clause-packets

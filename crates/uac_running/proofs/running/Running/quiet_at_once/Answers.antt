@@ -23,5 +23,5 @@ returns-clause-stands g c marks r stands quiet =
     let later = passed_by shown r c.args.self.now c.pass_by.new.self stands count c.pass_by.ensures in
     let there = record r { time = at_most_u64 (r.time + count) } in
     c.do_waiting.ensures (microframes marks count r).world
-    (waits_over marks c.args.domain count c.advance_over-waiting.result c.advance_over-waiting.new.self shown r (omega arith) quiet
+    (waits_over marks c.args.domain count c.advance_over-waiting.result c.advance_over-waiting.new.self shown r (omega arith) quiet.idle
     (c.advance_over-waiting.ensures.ticks shown there later) (c.advance_over-waiting.ensures.stands shown there later))

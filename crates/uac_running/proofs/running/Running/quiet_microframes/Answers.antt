@@ -4,7 +4,7 @@ use Rattle.uac_units.specs.MeterReadings.{readings}
 use Rattle.uac_streaming.proofs.RoomDeviceLemmas.{HaveSmallNumbers}
 use Rattle.uac_running.specs.Events.{microframes}
 use Rattle.uac_running.specs.RunningKept.{RunningFields, RunningStands}
-use Rattle.uac_running.proofs.QuietLemmas.{microframes_join, quiet_later, quiet_room}
+use Rattle.uac_running.proofs.QuietLemmas.{idle_room, microframes_join, quiet_later}
 use Rattle.uac_running.proofs.running.Running.quiet_microframes.Goals as goal
 
 pub loop-passed-init : goal.loop-passed-init
@@ -33,5 +33,5 @@ returns g c marks r stands quiet =
     record {
       now = subst (λ n. RunningStands c.loop-passed.self (readings (λ v x. (goal.Meter-dyn g (v, x)).reading_of x) c.loop-passed.meters) (microframes marks n r).world) all
           (c.loop-passed.invariant.stands marks r stands quiet);
-      room = quiet_room marks c.args.count c.args.domain r small quiet stands.room;
+      room = idle_room marks c.args.count c.args.domain r small quiet.idle stands.room;
     }

@@ -87,4 +87,4 @@ returns-clause-sent g c meters r stands lone =
     let sent = subst (RunningStands c.out_packets.new.self meters) (outs_world (map phrase_mark c.args.marks.now) b c.requires.packets lone.detail)
     (c.in_ok-out_packets.ensures.tells meters b later).1 in
     let own = subst (λ (p : RunningFields). RunningStands p meters (with_streaming b (outs_sent b))) (sym c.self.view_is) sent in
-    c.sent_after-sent.ensures.sent (outs_sent b) own.streaming
+    c.send_later.ensures.sent (outs_sent b) own.streaming

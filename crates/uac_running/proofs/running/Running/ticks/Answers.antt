@@ -12,7 +12,7 @@ pub tick_rows-requires-clause-most : goal.tick_rows-requires-clause-most
 tick_rows-requires-clause-most g c = c.meets_nothing.ensures.most c.if-meets_nothing.true
 
 pub show_rows-requires : goal.show_rows-requires
-show_rows-requires g c = c.meets_nothing.ensures.most c.if-meets_nothing.true
+show_rows-requires g c = omega (arith, c.meets_nothing.ensures.most c.if-meets_nothing.true)
 
 pub returns-then-meets_nothing-clause-tells : goal.returns-then-meets_nothing-clause-tells
 returns-then-meets_nothing-clause-tells g c r stands =
@@ -21,5 +21,5 @@ returns-then-meets_nothing-clause-tells g c r stands =
     rows_told c.args.domain c.args.count showing r c.tick_rows.new.self (g.K.Sink.written c.args.sink.now) (g.K.Sink.written c.show_rows.new.sink) c.show_rows.result
     (subst (λ (lines : List Said). Prints (g.K.Sink.written c.args.sink.now) (g.K.Sink.written c.show_rows.new.sink) c.show_rows.result lines)
     (sym (c.meets_nothing.ensures.lines shown r stands c.if-meets_nothing.true))
-    (c.show_rows.ensures.printed r (c.tick_rows.ensures.detail ∙ stands.detail) (c.tick_rows.ensures.function ∙ stands.streaming.device.function) (c.tick_rows.ensures.played r stands)))
+    (c.show_rows.ensures.printed c.args.count r (omega arith) (c.tick_rows.ensures.detail ∙ stands.detail) (c.tick_rows.ensures.function ∙ stands.streaming.device.function) (c.tick_rows.ensures.played r stands)))
     (c.tick_rows.ensures.stands r stands (c.meets_nothing.ensures.met shown r stands c.if-meets_nothing.true))

@@ -1,20 +1,40 @@
-use Rattle.std.proofs.Common.{◌∙◌, ap, arith, ◌<◌, ◌≤◌, length}
+-- In each turn the frames of one interface more are gone.
+use Rattle.std.proofs.Common.{◌∙◌, ap, refl, arith, ◌<◌, ◌≤◌, length, min, get_or}
 use Rattle.uac_streaming.specs.StreamingWorld.{numbers_in}
 use Rattle.uac_streaming.specs.StreamingKept.{StreamingFields}
-use Rattle.uac_streaming.proofs.StreamingReportLemmas.{first_dropped, first_read, none_dropped, none_there}
+use Rattle.uac_streaming.proofs.TellingLemmas.{at_place}
+use Rattle.uac_streaming.proofs.StreamingReportLemmas.{all_dropped, none_dropped, one_dropped}
+use Rattle.uac_streaming.proofs.StreamingWaitsLemmas.{ins_once}
 use Rattle.uac_streaming.proofs.streaming.Streaming.drop_sent.Goals as goal
 
-pub returns-then-len-gt0-clause-stands : goal.returns-then-len-gt0-clause-stands
-returns-then-len-gt0-clause-stands c w stands there =
-    let copy = c.self.inside.ins.items in
-    let is = ap (λ (p : StreamingFields). p.ins) c.self.view_is ∙ stands.ins in
-    let some : 0 < length copy = omega (arith, c.len.ensures, c.if-len-gt0.true) in
-    first_dropped (numbers_in w.device.function) c.index.result.now c.args.sent c.drop_sent.new.self w.device
-    (first_read copy (numbers_in w.device.function) c.index.result.now is some c.index.ensures) there (c.drop_sent.ensures.stands w.device stands.device)
+pub loop-at-init : goal.loop-at-init
+loop-at-init c = record {
+  stands = λ w stands there. none_dropped c.args.sent.now c.args.device.now w.device stands.device;
+  function = refl;
+}
 
-pub returns-else-len-gt0-clause-stands : goal.returns-else-len-gt0-clause-stands
-returns-else-len-gt0-clause-stands c w stands there =
-    let copy = c.self.inside.ins.items in
-    let is = ap (λ (p : StreamingFields). p.ins) c.self.view_is ∙ stands.ins in
-    let none : length copy ≤ 0 = omega (arith, c.len.ensures, c.if-len-gt0.false) in
-    none_dropped (numbers_in w.device.function) c.args.sent c.args.device.now w.device (none_there copy (numbers_in w.device.function) is none) stands.device
+pub loop-at-preserved : goal.loop-at-preserved
+loop-at-preserved c = record {
+  stands = λ w stands there.
+      let ns = numbers_in w.device.function in
+      let is = ap (λ (p : StreamingFields). p.ins) c.self.view_is ∙ stands.ins in
+      let many = ap length is in
+      let below : c.loop-at.at < length ns = omega (arith, many, c.len.ensures, c.self.inside.ins.ok.0, c.min-at-end.ensures, c.loop-at-test.true) in
+      let inside : c.loop-at.at < length c.args.sent.now = omega (arith, c.min-at-end.ensures, c.loop-at-test.true) in
+      one_dropped c.loop-at.at ns c.args.sent.now (ins_once w.device.function) below inside w.device c.index.result.now
+      (get_or c.args.sent.now c.loop-at.at 0) c.loop-at.device c.drop_sent.new.self
+      (at_place ns c.self.inside.ins.items c.self.inside.ins.items c.loop-at.at c.index.result.now refl is below c.index.ensures) refl there
+      (c.loop-at.invariant.stands w stands there) c.drop_sent.ensures.stands;
+  function = c.drop_sent.ensures.function ∙ c.loop-at.invariant.function;
+}
+
+pub returns : goal.returns
+returns c = record {
+  stands = λ w stands there.
+      let ns = numbers_in w.device.function in
+      let many = ap length (ap (λ (p : StreamingFields). p.ins) c.self.view_is ∙ stands.ins) in
+      let past : min (length ns) (length c.args.sent.now) ≤ c.loop-at.at =
+      omega (arith, many, c.len.ensures, c.self.inside.ins.ok.0, c.min-at-end.ensures, c.loop-at-test.false) in
+      all_dropped c.loop-at.at ns c.args.sent.now c.loop-at.device w.device past (c.loop-at.invariant.stands w stands there);
+  function = c.loop-at.invariant.function;
+}
